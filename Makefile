@@ -1,0 +1,8 @@
+# Thin front for the toolchain's commands.
+.PHONY: test fmt
+
+test:
+	.ci/run
+
+fmt:
+	rt fmt

@@ -1,0 +1,66 @@
+-- What a queue holds, and what each step does to that: first in, first out, at most eight words.
+use Prim.Native.Nat.{ℕ, _≤_}
+use mathlib.Core.Path.{_≡_}
+use mathlib.Core.List.{List, [], _∷_, _++_}
+use mathlib.Core.Bool.{Bool, true, false}
+use lib.ListN.{length, getD, take}
+use lib.Dec.{ltb}
+use Rattle.queue.specs.declared.Queue.{Queue}
+use Rattle.queue.specs.declared.Added.{Added}
+use Rattle.queue.specs.declared.Taken.{Taken}
+use Rattle.queue.specs.declared.Oldest.{Oldest}
+use Rattle.queue.specs.declared.Oldest.the-variants.{Word, Nothing}
+pub mod Laws
+
+-- How many words fit.
+abbrev pub places : ℕ
+places = 8
+
+-- One of two, by a test.
+abbrev pub pick : {A : Type 0} → Bool → A → A → A
+pick true a b = a
+pick false a b = b
+
+-- The words held, oldest first. Shut: only this module's laws look inside.
+pub contents : Queue → List ℕ
+contents q = take (q .count) (q .words)
+
+-- Places past the last word are zero.
+pub Clean : Queue → Type 0
+Clean q = (i : ℕ) → q .count ≤ i → getD (q .words) i 0 ≡ 0
+
+-- The word of a place that is in use, zero in any other.
+unfoldable pub usedWord : ℕ → ℕ → ℕ → ℕ
+usedWord count place w = pick (ltb place count) w 0
+
+-- The oldest word, if there is one.
+abbrev pub oldest : List ℕ → Oldest
+oldest [] = Nothing
+oldest (x ∷ xs) = Word x
+
+-- The words without the oldest.
+abbrev pub rest : List ℕ → List ℕ
+rest [] = []
+rest (x ∷ xs) = xs
+
+-- A word goes behind the others, unless eight are held.
+unfoldable pub added : List ℕ → ℕ → List ℕ
+added xs w = pick (ltb (length xs) places) (xs ++ (w ∷ [])) xs
+
+pub record CountOf (q : Queue) (r : ℕ) : Type 0 where
+  pub count : r ≡ length (contents q)
+  pub most : r ≤ places
+
+pub record AddedTo (q : Queue) (w : ℕ) (r : Added) : Type 0 where
+  pub kept : r .kept ≡ ltb (length (contents q)) places
+  pub holds : contents (r .queue) ≡ added (contents q) w
+  pub clean : Clean q → Clean (r .queue)
+
+pub record TakenFrom (q : Queue) (r : Taken) : Type 0 where
+  pub word : r .oldest ≡ oldest (contents q)
+  pub holds : contents (r .queue) ≡ rest (contents q)
+  pub clean : Clean q → Clean (r .queue)
+
+pub record RestoredFrom (words : List ℕ) (count : ℕ) (r : Queue) : Type 0 where
+  pub holds : contents r ≡ take count words
+  pub clean : Clean r
