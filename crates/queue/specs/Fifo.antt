@@ -2,9 +2,9 @@
 use Prim.Native.Nat.{ℕ, _≤_}
 use mathlib.Core.Path.{_≡_}
 use mathlib.Core.List.{List, [], _∷_, _++_}
-use mathlib.Core.Bool.{Bool, true, false}
 use lib.ListN.{length, getD, take}
 use lib.Dec.{ltb}
+use Rattle.queue.specs.Choose.{pick}
 use Rattle.queue.specs.declared.Queue.{Queue}
 use Rattle.queue.specs.declared.Added.{Added}
 use Rattle.queue.specs.declared.Taken.{Taken}
@@ -15,11 +15,6 @@ pub mod Laws
 -- How many words fit.
 abbrev pub places : ℕ
 places = 8
-
--- One of two, by a test.
-abbrev pub pick : {A : Type 0} → Bool → A → A → A
-pick true a b = a
-pick false a b = b
 
 -- The words held, oldest first. Shut: only this module's laws look inside.
 pub contents : Queue → List ℕ

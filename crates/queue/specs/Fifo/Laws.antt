@@ -14,7 +14,7 @@ use Rattle.queue.specs.declared.Queue.{Queue}
 use Rattle.queue.specs.declared.Added.{Added}
 use Rattle.queue.specs.declared.Taken.{Taken}
 use Rattle.queue.specs.declared.Oldest.the-variants.{Word, Nothing}
-use Rattle.queue.specs.Fifo.{contents, Clean, pick, usedWord, added, rest, oldest, AddedTo, TakenFrom, RestoredFrom}
+use Rattle.queue.specs.Fifo.{contents, Clean, usedWord, added, rest, oldest, AddedTo, TakenFrom, RestoredFrom}
 
 -- the count
 

@@ -1,0 +1,2 @@
+mod Decoder
+mod Products

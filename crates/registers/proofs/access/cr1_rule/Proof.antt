@@ -1,0 +1,41 @@
+use Rattle.registers.specs.Access.{cr1Rule}
+use Rattle.registers.specs.Model.Inside.{model-of}
+use borrow.Author.Needs.{needs}
+use Rattle.registers.proofs.access.cr1_rule.Statement.{statement}
+use Rattle.registers.proofs.access.cr1_rule.Tie as tie
+
+enabled-requires : tie.Need-enabled-requires
+enabled-requires c κs = search needs
+
+cast-old : tie.Need-cast-old
+cast-old c = search needs
+
+cast-permitted : tie.Need-cast-permitted
+cast-permitted c = search needs
+
+permitted-requires : tie.Need-permitted-requires
+permitted-requires c κs = search needs
+
+returns : tie.Need-returns
+unfolding cr1Rule
+returns c = rw (← c .before .before .before .before .before .enabled .ensures, model-of, c .if1 .taken)
+
+returns-2 : tie.Need-returns-2
+unfolding cr1Rule
+returns-2 c = rw (← c .before .before .before .before .before .before .enabled .ensures, model-of, c .before .if1 .left, ← c .before .before .before .permitted .ensures, c .if2 .taken)
+
+returns-3 : tie.Need-returns-3
+unfolding cr1Rule
+returns-3 c = rw (← c .before .before .before .before .before .before .enabled .ensures, model-of, c .before .if1 .left, ← c .before .before .before .permitted .ensures, c .if2 .left)
+
+pub cr1-rule-spec : {M : Type 1} → statement M
+cr1-rule-spec =
+    tie.close
+    (tie.spec
+    enabled-requires
+    cast-old
+    cast-permitted
+    permitted-requires
+    returns
+    returns-2
+    returns-3)

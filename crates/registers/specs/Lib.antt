@@ -1,0 +1,9 @@
+pub mod Choose
+pub mod Time
+pub mod Refusals
+pub mod Model
+pub mod Offsets
+pub mod Settings
+pub mod Flags
+pub mod Access
+pub mod Transfer

@@ -1,0 +1,54 @@
+-- What CR0, CR1 and CPSR mean.
+use Prim.Native.Nat.{ℕ, _+_, _*_, _/_, _%_, _≤_}
+use mathlib.Core.Path.{_≡_}
+use mathlib.Core.Bool.{Bool, _&&_}
+use lib.Dec.{ltb, leb, eqb}
+use Rattle.registers.specs.Choose.{pick, bitAt}
+use Rattle.registers.specs.declared.Control.{Control}
+use Rattle.registers.specs.declared.settings.Format.{Format}
+use Rattle.registers.specs.declared.settings.Format.the-variants.{Motorola, Ti, Microwire, Reserved}
+use Rattle.registers.specs.declared.settings.Settings.{Settings}
+
+-- FRF, CR0's bits 5:4: 0 Motorola, 1 TI, 2 Microwire, 3 reserved.
+unfoldable pub formatOf : ℕ → Format
+formatOf cr0 =
+    pick (eqb (cr0 / 16 % 4) 0) Motorola
+    (pick (eqb (cr0 / 16 % 4) 1) Ti
+    (pick (eqb (cr0 / 16 % 4) 2) Microwire
+    Reserved))
+
+-- A permitted CR0: FRF below 3 and DSS, its bits 3:0, at least 3.
+unfoldable pub permittedOf : ℕ → Bool
+permittedOf cr0 = ltb (cr0 / 16 % 4) 3 && leb 3 (cr0 % 16)
+
+-- b = DSS + 1.
+unfoldable pub bitsOf : ℕ → ℕ
+bitsOf cr0 = cr0 % 16 + 1
+
+-- h, the cycles of a slot: (CPSR / 2) × (1 + SCR), SCR being CR0's bits 15:8.
+unfoldable pub halfOf : Control → ℕ
+halfOf c = (c .cpsr / 2) * (1 + c .cr0 / 256 % 256)
+
+-- It is at most 127 × 256.
+pub record HalfOf (c : Control) (r : ℕ) : Type 0 where
+  pub half : r ≡ halfOf c
+  pub most : r ≤ 32512
+
+-- SSE, CR1's bit 1: the port is enabled.
+unfoldable pub enabledOf : Control → Bool
+enabledOf c = bitAt (c .cr1) 2
+
+-- All that the engine goes by: SPH is CR0's bit 7 and SPO its bit 6, MS CR1's bit 2, SOD its bit 3, LBM its bit 0.
+unfoldable pub settingsOf : Control → Settings
+settingsOf c =
+    record {
+      format = formatOf (c .cr0);
+      phase = bitAt (c .cr0) 128;
+      polarity = bitAt (c .cr0) 64;
+      bits = bitsOf (c .cr0);
+      half = halfOf c;
+      slave = bitAt (c .cr1) 4;
+      silent = bitAt (c .cr1) 8;
+      loopback = bitAt (c .cr1) 1;
+      enabled = enabledOf c;
+    }

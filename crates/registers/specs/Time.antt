@@ -1,0 +1,16 @@
+-- Lengths in cycles and in slots are two kinds of number: a slot is h cycles.
+use Prim.Native.Nat.{ℕ, _*_}
+use Rattle.registers.specs.declared.time.Cycles.{Cycles}
+use Rattle.registers.specs.declared.time.Slots.{Slots}
+
+-- So many cycles.
+abbrev pub cycles : ℕ → Cycles
+cycles n = record { 0 = n }
+
+-- So many slots.
+abbrev pub slots : ℕ → Slots
+slots n = record { 0 = n }
+
+-- The one way from slots to cycles.
+unfoldable pub cyclesOf : Slots → ℕ → Cycles
+cyclesOf s h = cycles (s .0 * h)

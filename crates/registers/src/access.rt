@@ -1,0 +1,392 @@
+// Reading and writing the registers.
+ghost use mathlib.Core.Path.{_≡_};
+ghost use mathlib.Core.Bool.{Bool};
+ghost use Rattle.registers.specs.Model.{modelOf};
+ghost use Rattle.registers.specs.Access.{readRefusal, readWord, readDone, dataTaken, ReadAs, bitsBeyond, writeAccess, cr0Rule, cr1Rule, cpsrRule, drRule, writeRule, writeRefusal, keptCount, cr0Written, cr1Written, cpsrWritten, icrWritten, drWritten, imscWritten, dmacrWritten, writeDone, WrittenAs};
+use crate::Control;
+use crate::Masks;
+use crate::Registers;
+use crate::Timeout;
+use crate::offsets::Place;
+use crate::time::Cycles;
+use queue::Oldest;
+
+// Refusal numbers, in the order in which they are checked.
+pub const DONE: u8 = 0;
+
+pub const BAD_OFFSET: u8 = 1;
+
+pub const RESERVED_OFFSET: u8 = 2;
+
+pub const WRONG_ACCESS: u8 = 3;
+
+pub const EXTRA_BITS: u8 = 4;
+
+pub const WHILE_ENABLED: u8 = 5;
+
+pub const NOT_PERMITTED: u8 = 6;
+
+pub const QUEUE_FULL: u8 = 7;
+
+pub const QUEUE_EMPTY: u8 = 8;
+
+// What a read answers: a word, or a refusal number.
+pub enum Answer {
+    Word(u16),
+    Refused(u8),
+}
+
+pub struct Reading {
+    pub answer: Answer,
+    pub registers: Registers,
+}
+
+pub struct Written {
+    pub refusal: u8,
+    pub registers: Registers,
+}
+
+// Reading ------------------------------------------------------------------------------------------------------------
+
+fn read_refusal(r: Registers, place: Place) -> u8
+    ensures { λ n. ⌜ n ≡ readRefusal (modelOf r) place ⌝ }
+{
+    match place {
+        Place::Cr0 => DONE,
+        Place::Cr1 => DONE,
+        Place::Dr => {
+            let held = queue::count(r.rx);
+            if held == 0 { QUEUE_EMPTY } else { DONE }
+        }
+        Place::Sr => DONE,
+        Place::Cpsr => DONE,
+        Place::Imsc => DONE,
+        Place::Ris => DONE,
+        Place::Mis => DONE,
+        Place::Icr => WRONG_ACCESS,
+        Place::Dmacr => DONE,
+        Place::Identity(_) => DONE,
+        Place::Reserved => RESERVED_OFFSET,
+        Place::Outside => BAD_OFFSET,
+    }
+}
+
+fn read_word(r: Registers, frame: bool, place: Place) -> u16
+    ensures { λ w. ⌜ w ≡ readWord (modelOf r) frame place ⌝ }
+{
+    match place {
+        Place::Cr0 => r.control.cr0,
+        Place::Cr1 => r.control.cr1 as u16,
+        Place::Dr => queue::word_at(r.rx, 0),
+        Place::Sr => crate::flags::status(r, frame),
+        Place::Cpsr => r.control.cpsr as u16,
+        Place::Imsc => r.masks.imsc as u16,
+        Place::Ris => crate::flags::interrupt_word(crate::flags::raw(r)),
+        Place::Mis => crate::flags::interrupt_word(crate::flags::masked(r)),
+        Place::Icr => 0,
+        Place::Dmacr => r.masks.dmacr as u16,
+        Place::Identity(i) => crate::offsets::identity(i) as u16,
+        Place::Reserved => 0,
+        Place::Outside => 0,
+    }
+}
+
+// The oldest received word goes; the timeout's count restarts.
+fn data_taken(r: Registers) -> Registers
+    ensures { λ n. ⌜ modelOf n ≡ dataTaken (modelOf r) ⌝ }
+{
+    let out = queue::take_oldest(r.rx);
+    let rest = out.queue;
+    let left = queue::count(rest);
+    let timeout = Timeout {
+        rt: r.timeout.rt & (left != 0),
+        count: Cycles(0),
+    };
+    let mut next = r;
+    next.timeout = timeout;
+    next.rx = rest;
+    next
+}
+
+fn read_done(r: Registers, place: Place) -> Registers
+    ensures { λ n. ⌜ modelOf n ≡ readDone (modelOf r) place ⌝ }
+{
+    match place {
+        Place::Cr0 => r,
+        Place::Cr1 => r,
+        Place::Dr => data_taken(r),
+        Place::Sr => r,
+        Place::Cpsr => r,
+        Place::Imsc => r,
+        Place::Ris => r,
+        Place::Mis => r,
+        Place::Icr => r,
+        Place::Dmacr => r,
+        Place::Identity(_) => r,
+        Place::Reserved => r,
+        Place::Outside => r,
+    }
+}
+
+// A register read; `frame` says whether a frame is in progress.
+pub fn read(r: Registers, offset: u32, frame: bool) -> Reading
+    ensures { λ o. ⌜ ReadAs (modelOf r) frame offset o ⌝ }
+{
+    let place = crate::offsets::place_of(offset);
+    let refusal = read_refusal(r, place);
+    if refusal != DONE {
+        return Reading {
+            answer: Answer::Refused(refusal),
+            registers: r,
+        };
+    }
+    let word = read_word(r, frame, place);
+    let next = read_done(r, place);
+    Reading {
+        answer: Answer::Word(word),
+        registers: next,
+    }
+}
+
+// Writing ------------------------------------------------------------------------------------------------------------
+
+fn bits_beyond(limit: u32, value: u32) -> u8
+    ensures { λ n. ⌜ n ≡ bitsBeyond limit value ⌝ }
+{
+    let beyond = limit <= value;
+    if beyond { EXTRA_BITS } else { DONE }
+}
+
+fn write_access(place: Place, value: u32) -> u8
+    ensures { λ n. ⌜ n ≡ writeAccess place value ⌝ }
+{
+    match place {
+        Place::Cr0 => bits_beyond(0x10000, value),
+        Place::Cr1 => bits_beyond(0x10, value),
+        Place::Dr => bits_beyond(0x10000, value),
+        Place::Sr => WRONG_ACCESS,
+        Place::Cpsr => bits_beyond(0x100, value),
+        Place::Imsc => bits_beyond(0x10, value),
+        Place::Ris => WRONG_ACCESS,
+        Place::Mis => WRONG_ACCESS,
+        Place::Icr => bits_beyond(0x4, value),
+        Place::Dmacr => bits_beyond(0x4, value),
+        Place::Identity(_) => WRONG_ACCESS,
+        Place::Reserved => RESERVED_OFFSET,
+        Place::Outside => BAD_OFFSET,
+    }
+}
+
+fn cr0_rule(r: Registers, value: u32) -> u8
+    ensures { λ n. ⌜ n ≡ cr0Rule (modelOf r) value ⌝ }
+{
+    let on = crate::settings::enabled(r);
+    if on {
+        return WHILE_ENABLED;
+    }
+    let good = crate::settings::permitted(value);
+    if good { DONE } else { NOT_PERMITTED }
+}
+
+fn cr1_rule(r: Registers, value: u32) -> u8
+    ensures { λ n. ⌜ n ≡ cr1Rule (modelOf r) value ⌝ }
+{
+    let on = crate::settings::enabled(r);
+    let old = r.control.cr1 as u32;
+    let held = on & ((old / 4 % 2 != value / 4 % 2) | (old % 2 != value % 2));
+    let good = crate::settings::permitted(r.control.cr0 as u32);
+    let unready = (value / 2 % 2 == 1) & (!good | (r.control.cpsr == 0));
+    if held {
+        return WHILE_ENABLED;
+    }
+    if unready { NOT_PERMITTED } else { DONE }
+}
+
+fn cpsr_rule(r: Registers) -> u8
+    ensures { λ n. ⌜ n ≡ cpsrRule (modelOf r) ⌝ }
+{
+    let on = crate::settings::enabled(r);
+    if on { WHILE_ENABLED } else { DONE }
+}
+
+fn dr_rule(r: Registers) -> u8
+    ensures { λ n. ⌜ n ≡ drRule (modelOf r) ⌝ }
+{
+    let waiting = queue::count(r.tx);
+    let full = queue::PLACES <= waiting;
+    if full { QUEUE_FULL } else { DONE }
+}
+
+fn write_rule(r: Registers, place: Place, value: u32) -> u8
+    ensures { λ n. ⌜ n ≡ writeRule (modelOf r) place value ⌝ }
+{
+    match place {
+        Place::Cr0 => cr0_rule(r, value),
+        Place::Cr1 => cr1_rule(r, value),
+        Place::Dr => dr_rule(r),
+        Place::Sr => DONE,
+        Place::Cpsr => cpsr_rule(r),
+        Place::Imsc => DONE,
+        Place::Ris => DONE,
+        Place::Mis => DONE,
+        Place::Icr => DONE,
+        Place::Dmacr => DONE,
+        Place::Identity(_) => DONE,
+        Place::Reserved => DONE,
+        Place::Outside => DONE,
+    }
+}
+
+fn write_refusal(r: Registers, place: Place, value: u32) -> u8
+    ensures { λ n. ⌜ n ≡ writeRefusal (modelOf r) place value ⌝ }
+{
+    let first = write_access(place, value);
+    let passed = first == DONE;
+    if passed {
+        return write_rule(r, place, value);
+    }
+    first
+}
+
+fn cr0_written(r: Registers, value: u32) -> Registers
+    ensures { λ n. ⌜ modelOf n ≡ cr0Written (modelOf r) value ⌝ }
+{
+    let control = Control {
+        cr0: (value % 0x10000) as u16,
+        cr1: r.control.cr1,
+        cpsr: r.control.cpsr,
+    };
+    let mut next = r;
+    next.control = control;
+    next
+}
+
+// Kept where `keep` says so, else zero.
+fn kept_count(keep: bool, count: Cycles) -> Cycles
+    ensures { λ n. ⌜ n ≡ keptCount keep count ⌝ }
+{
+    if keep { count } else { Cycles(0) }
+}
+
+// With SSE clear the timeout's count is zero; both queues stay.
+fn cr1_written(r: Registers, value: u32) -> Registers
+    ensures { λ n. ⌜ modelOf n ≡ cr1Written (modelOf r) value ⌝ }
+{
+    let control = Control {
+        cr0: r.control.cr0,
+        cr1: (value % 0x10) as u8,
+        cpsr: r.control.cpsr,
+    };
+    let timeout = Timeout {
+        rt: r.timeout.rt,
+        count: kept_count(value / 2 % 2 == 1, r.timeout.count),
+    };
+    let mut next = r;
+    next.control = control;
+    next.timeout = timeout;
+    next
+}
+
+// Bit 0 is dropped.
+fn cpsr_written(r: Registers, value: u32) -> Registers
+    ensures { λ n. ⌜ modelOf n ≡ cpsrWritten (modelOf r) value ⌝ }
+{
+    let control = Control {
+        cr0: r.control.cr0,
+        cr1: r.control.cr1,
+        cpsr: (value % 0x100 / 2 * 2) as u8,
+    };
+    let mut next = r;
+    next.control = control;
+    next
+}
+
+// A one clears; RT's bit restarts the count too.
+fn icr_written(r: Registers, value: u32) -> Registers
+    ensures { λ n. ⌜ modelOf n ≡ icrWritten (modelOf r) value ⌝ }
+{
+    let keep = value / 2 % 2 != 1;
+    let timeout = Timeout {
+        rt: r.timeout.rt & keep,
+        count: kept_count(keep, r.timeout.count),
+    };
+    let ror = r.ror & (value / 1 % 2 != 1);
+    let mut next = r;
+    next.timeout = timeout;
+    next.ror = ror;
+    next
+}
+
+// The newest word to send.
+fn dr_written(r: Registers, value: u32) -> Registers
+    ensures { λ n. ⌜ modelOf n ≡ drWritten (modelOf r) value ⌝ }
+{
+    let added = queue::add(r.tx, (value % 0x10000) as u16);
+    let tx = added.queue;
+    let mut next = r;
+    next.tx = tx;
+    next
+}
+
+fn imsc_written(r: Registers, value: u32) -> Registers
+    ensures { λ n. ⌜ modelOf n ≡ imscWritten (modelOf r) value ⌝ }
+{
+    let masks = Masks {
+        imsc: (value % 0x10) as u8,
+        dmacr: r.masks.dmacr,
+    };
+    let mut next = r;
+    next.masks = masks;
+    next
+}
+
+fn dmacr_written(r: Registers, value: u32) -> Registers
+    ensures { λ n. ⌜ modelOf n ≡ dmacrWritten (modelOf r) value ⌝ }
+{
+    let masks = Masks {
+        imsc: r.masks.imsc,
+        dmacr: (value % 0x4) as u8,
+    };
+    let mut next = r;
+    next.masks = masks;
+    next
+}
+
+fn write_done(r: Registers, place: Place, value: u32) -> Registers
+    ensures { λ n. ⌜ modelOf n ≡ writeDone (modelOf r) place value ⌝ }
+{
+    match place {
+        Place::Cr0 => cr0_written(r, value),
+        Place::Cr1 => cr1_written(r, value),
+        Place::Dr => dr_written(r, value),
+        Place::Sr => r,
+        Place::Cpsr => cpsr_written(r, value),
+        Place::Imsc => imsc_written(r, value),
+        Place::Ris => r,
+        Place::Mis => r,
+        Place::Icr => icr_written(r, value),
+        Place::Dmacr => dmacr_written(r, value),
+        Place::Identity(_) => r,
+        Place::Reserved => r,
+        Place::Outside => r,
+    }
+}
+
+// A register write.
+pub fn write(r: Registers, offset: u32, value: u32) -> Written
+    ensures { λ o. ⌜ WrittenAs (modelOf r) offset value o ⌝ }
+{
+    let place = crate::offsets::place_of(offset);
+    let refusal = write_refusal(r, place, value);
+    if refusal != DONE {
+        return Written {
+            refusal,
+            registers: r,
+        };
+    }
+    let next = write_done(r, place, value);
+    Written {
+        refusal: DONE,
+        registers: next,
+    }
+}

@@ -1,0 +1,64 @@
+// The register file of the PL022 over its two queues of eight words.
+// Every function takes any value of its parameters; its promise is over the model of specs/Model.antt.
+ghost use mathlib.Core.Path.{_≡_};
+ghost use Rattle.registers.specs.Model.{modelOf, resetModel};
+
+pub mod access;
+pub mod flags;
+pub mod offsets;
+pub mod settings;
+pub mod time;
+pub mod transfer;
+
+use crate::time::Cycles;
+use queue::Queue;
+
+// The registers that set the port up.
+pub struct Control {
+    pub cr0: u16,
+    pub cr1: u8,
+    pub cpsr: u8,
+}
+
+// The registers that the port stores and the engine does not go by.
+pub struct Masks {
+    pub imsc: u8,
+    pub dmacr: u8,
+}
+
+// The receive timeout: the flag RT, and the cycles counted towards it.
+pub struct Timeout {
+    pub rt: bool,
+    pub count: Cycles,
+}
+
+// The register file.
+pub struct Registers {
+    control: Control,
+    masks: Masks,
+    timeout: Timeout,
+    ror: bool,
+    tx: Queue,
+    rx: Queue,
+}
+
+// All zero, queues empty.
+pub fn reset() -> Registers
+    ensures { λ r. ⌜ modelOf r ≡ resetModel ⌝ }
+{
+    Registers {
+        control: Control {
+            cr0: 0,
+            cr1: 0,
+            cpsr: 0,
+        },
+        masks: Masks { imsc: 0, dmacr: 0 },
+        timeout: Timeout {
+            rt: false,
+            count: Cycles(0),
+        },
+        ror: false,
+        tx: queue::empty(),
+        rx: queue::empty(),
+    }
+}

@@ -1,0 +1,95 @@
+// What CR0, CR1 and CPSR mean.
+ghost use mathlib.Core.Path.{_≡_};
+ghost use Rattle.registers.specs.Model.{modelOf};
+ghost use Rattle.registers.specs.Settings.{formatOf, permittedOf, HalfOf, settingsOf, enabledOf};
+use crate::Control;
+use crate::Registers;
+
+// The frame format.
+pub enum Format {
+    Motorola,
+    Ti,
+    Microwire,
+    Reserved,
+}
+
+// All that the serial engine goes by.
+pub struct Settings {
+    pub format: Format,
+    // SPH
+    pub phase: bool,
+    // SPO
+    pub polarity: bool,
+    // b, the bits of a word
+    pub bits: u8,
+    // h, the cycles of a slot, half a bit
+    pub half: u16,
+    // MS
+    pub slave: bool,
+    // SOD: a slave that does not drive its output
+    pub silent: bool,
+    // LBM
+    pub loopback: bool,
+    // SSE
+    pub enabled: bool,
+}
+
+fn format_of(cr0: u16) -> Format
+    ensures { λ r. ⌜ r ≡ formatOf cr0 ⌝ }
+{
+    let frf = cr0 / 16 % 4;
+    match frf {
+        0 => Format::Motorola,
+        1 => Format::Ti,
+        2 => Format::Microwire,
+        _ => Format::Reserved,
+    }
+}
+
+// Whether CR0 may hold this value: a format below 3, at least four bits.
+pub fn permitted(cr0: u32) -> bool
+    ensures { λ r. ⌜ r ≡ permittedOf cr0 ⌝ }
+{
+    (cr0 / 16 % 4 < 3) & (3 <= cr0 % 16)
+}
+
+pub(crate) fn half_of(c: Control) -> u16
+    ensures { λ r. ⌜ HalfOf c r ⌝ }
+{
+    ((c.cpsr / 2) as u16) * (1 + c.cr0 / 256 % 256)
+}
+
+fn enabled_of(c: Control) -> bool
+    ensures { λ r. ⌜ r ≡ enabledOf c ⌝ }
+{
+    c.cr1 / 2 % 2 == 1
+}
+
+// SSE.
+pub fn enabled(r: Registers) -> bool
+    ensures { λ e. ⌜ e ≡ enabledOf (modelOf r .control) ⌝ }
+{
+    let c = r.control;
+    enabled_of(c)
+}
+
+// The settings of the engine.
+pub fn settings_of(r: Registers) -> Settings
+    ensures { λ s. ⌜ s ≡ settingsOf (modelOf r .control) ⌝ }
+{
+    let c = r.control;
+    let format = format_of(c.cr0);
+    let half = half_of(c);
+    let on = enabled_of(c);
+    Settings {
+        format,
+        phase: c.cr0 / 128 % 2 == 1,
+        polarity: c.cr0 / 64 % 2 == 1,
+        bits: (c.cr0 % 16) as u8 + 1,
+        half,
+        slave: c.cr1 / 4 % 2 == 1,
+        silent: c.cr1 / 8 % 2 == 1,
+        loopback: c.cr1 / 1 % 2 == 1,
+        enabled: on,
+    }
+}

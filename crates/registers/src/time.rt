@@ -1,0 +1,16 @@
+// Lengths of time in cycles and in slots: two kinds of number.
+ghost use mathlib.Core.Path.{_≡_};
+ghost use Rattle.registers.specs.Time.{cyclesOf};
+
+// A length in cycles of the port's clock.
+pub struct Cycles(pub u32);
+
+// A length in slots: two slots are a bit.
+pub struct Slots(pub u16);
+
+// The one way from slots to cycles, with h, the cycles of a slot.
+pub fn cycles_of(slots: Slots, half: u16) -> Cycles
+    ensures { λ r. ⌜ r ≡ cyclesOf slots half ⌝ }
+{
+    Cycles((slots.0 as u32) * (half as u32))
+}

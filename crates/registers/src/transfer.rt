@@ -1,0 +1,107 @@
+// What the serial engine needs of the register file.
+ghost use mathlib.Core.Path.{_≡_};
+ghost use Rattle.registers.specs.Model.{modelOf};
+ghost use Rattle.registers.specs.Transfer.{waitingOf, TakenAs, receivedModel, idlesOf, LimitOf, timeoutOf, endedModel};
+use crate::Registers;
+use crate::Timeout;
+use crate::time::Cycles;
+use crate::time::Slots;
+use queue::Oldest;
+
+// A word to send, taken out of the queue; 0 where there was none.
+pub struct Taken {
+    pub word: u16,
+    pub registers: Registers,
+}
+
+// RT comes after 32 bit times.
+const TIMEOUT: Slots = Slots(64);
+
+// Whether a word waits to be sent.
+pub fn waiting(r: Registers) -> bool
+    ensures { λ w. ⌜ w ≡ waitingOf (modelOf r) ⌝ }
+{
+    let on = crate::settings::enabled(r);
+    let n = queue::count(r.tx);
+    on & (n != 0)
+}
+
+// The oldest word to send is taken.
+pub fn take_word(r: Registers) -> Taken
+    ensures { λ o. ⌜ TakenAs (modelOf r) o ⌝ }
+{
+    let word = queue::word_at(r.tx, 0);
+    let out = queue::take_oldest(r.tx);
+    let tx = out.queue;
+    let mut next = r;
+    next.tx = tx;
+    Taken {
+        word,
+        registers: next,
+    }
+}
+
+// A completed word: kept, or lost with the overrun flag set.
+pub fn receive(r: Registers, word: u16) -> Registers
+    ensures { λ n. ⌜ modelOf n ≡ receivedModel (modelOf r) word ⌝ }
+{
+    let added = queue::add(r.rx, word);
+    let rx = added.queue;
+    let kept = added.kept;
+    let mut next = r;
+    next.rx = rx;
+    next.ror = r.ror | !kept;
+    next
+}
+
+fn idles(r: Registers, frame: bool) -> bool
+    ensures { λ i. ⌜ i ≡ idlesOf (modelOf r) frame ⌝ }
+{
+    let n = queue::count(r.rx);
+    let on = crate::settings::enabled(r);
+    ((n != 0) & on) & !frame
+}
+
+// The cycles after which RT is set.
+fn limit(r: Registers) -> u32
+    ensures { λ n. ⌜ LimitOf (modelOf r) n ⌝ }
+{
+    let c = r.control;
+    let h = crate::settings::half_of(c);
+    crate::time::cycles_of(TIMEOUT, h).0
+}
+
+fn timeout_of(r: Registers, frame: bool) -> Timeout
+    ensures { λ t. ⌜ t ≡ timeoutOf (modelOf r) frame ⌝ }
+{
+    let counts = idles(r, frame);
+    if counts {
+        let next = r.timeout.count.0 as u64 + 1;
+        let most = limit(r) as u64;
+        let reached = most <= next;
+        if reached {
+            return Timeout {
+                rt: true,
+                count: Cycles(0),
+            };
+        }
+        return Timeout {
+            rt: r.timeout.rt,
+            count: Cycles((next % 0x1_0000_0000) as u32),
+        };
+    }
+    Timeout {
+        rt: r.timeout.rt,
+        count: Cycles(0),
+    }
+}
+
+// The timeout at the end of a cycle; `frame` says whether a frame is in progress then.
+pub fn end_cycle(r: Registers, frame: bool) -> Registers
+    ensures { λ n. ⌜ modelOf n ≡ endedModel (modelOf r) frame ⌝ }
+{
+    let timeout = timeout_of(r, frame);
+    let mut next = r;
+    next.timeout = timeout;
+    next
+}
