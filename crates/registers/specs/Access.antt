@@ -6,9 +6,9 @@ use mathlib.Core.Bool.{Bool, not, _&&_, _||_}
 use lib.ListN.{length, getD}
 use lib.Dec.{ltb, leb, eqb}
 use Rattle.queue.specs.Fifo.{added, rest}
-use Rattle.registers.specs.Choose.{pick, bitAt}
+use Rattle.registers.specs.Choose.{pick, bitAt, bitsDiffer}
 use Rattle.registers.specs.Time.{cycles}
-use Rattle.registers.specs.Refusals.{done, badOffset, reservedOffset, wrongAccess, extraBits, whileEnabled, notPermitted, queueFull, queueEmpty, firstOf}
+use Rattle.registers.specs.Refusals.{done, badOffset, reservedOffset, wrongAccess, extraBits, whileEnabled, notPermitted, queueFull, queueEmpty, firstOf, refusalOf, wordOf}
 use Rattle.registers.specs.Model.{Model, modelOf, withControl, withMasks, withTimeout, withRor, withTx, withRx}
 use Rattle.registers.specs.Offsets.{placeOf, identityOf}
 use Rattle.registers.specs.Settings.{enabledOf, permittedOf}
@@ -39,7 +39,7 @@ readRefusal m (Identity i) = done
 readRefusal m Reserved = reservedOffset
 readRefusal m Outside = badOffset
 
--- The word of a place; `frame` says whether a frame is in progress.
+-- The word of a place, 0 where a read is refused by the place; `frame` says whether a frame is in progress.
 abbrev pub readWord : Model → Bool → Place → ℕ
 readWord m frame Cr0 = m .control .cr0
 readWord m frame Cr1 = m .control .cr1
@@ -87,6 +87,8 @@ readModel m o = pick (eqb (readRefusal m (placeOf o)) done) (readDone m (placeOf
 
 pub record ReadAs (m : Model) (frame : Bool) (o : ℕ) (r : Reading) : Type 0 where
   pub answer : r .answer ≡ readAnswer m frame o
+  pub refusal : refusalOf (r .answer) ≡ readRefusal m (placeOf o)
+  pub word : wordOf (r .answer) ≡ pick (eqb (readRefusal m (placeOf o)) done) (readWord m frame (placeOf o)) 0
   pub model : modelOf (r .registers) ≡ readModel m o
 
 -- Writing ------------------------------------------------------------------------------------------------------------
@@ -118,8 +120,8 @@ cr0Rule m v = pick (enabledOf (m .control)) whileEnabled (pick (permittedOf v) d
 -- CR1: 5 with another MS or LBM while SSE is 1; 6 if it sets SSE while CR0 is not permitted or CPSR is 0.
 unfoldable pub cr1Rule : Model → ℕ → ℕ
 cr1Rule m v =
-    pick (enabledOf (m .control) && (not (eqb (m .control .cr1 / 4 % 2) (v / 4 % 2)) || not (eqb (m .control .cr1 % 2) (v % 2)))) whileEnabled
-    (pick (bitAt v 2 && (not (permittedOf (m .control .cr0)) || eqb (m .control .cpsr) 0)) notPermitted
+    pick (enabledOf (m .control) && (bitsDiffer (m .control .cr1) v 2 || bitsDiffer (m .control .cr1) v 0)) whileEnabled
+    (pick (bitAt v 1 && (not (permittedOf (m .control .cr0)) || eqb (m .control .cpsr) 0)) notPermitted
     done)
 
 -- CPSR: 5 while SSE is 1.
@@ -130,7 +132,7 @@ cpsrRule m = pick (enabledOf (m .control)) whileEnabled done
 unfoldable pub drRule : Model → ℕ
 drRule m = pick (leb 8 (length (m .tx))) queueFull done
 
--- 5 to 7, by the state.
+-- 5 to 7, by the state; the other registers have no such rule.
 abbrev pub writeRule : Model → Place → ℕ → ℕ
 writeRule m Cr0 v = cr0Rule m v
 writeRule m Cr1 v = cr1Rule m v
@@ -161,7 +163,7 @@ cr0Written m v = withControl m (record { cr0 = v % 0x10000; cr1 = m .control .cr
 unfoldable pub cr1Written : Model → ℕ → Model
 cr1Written m v =
     withTimeout (withControl m (record { cr0 = m .control .cr0; cr1 = v % 0x10; cpsr = m .control .cpsr }))
-    (record { rt = m .timeout .rt; count = keptCount (bitAt v 2) (m .timeout .count) })
+    (record { rt = m .timeout .rt; count = keptCount (bitAt v 1) (m .timeout .count) })
 
 -- A written CPSR, bit 0 dropped.
 unfoldable pub cpsrWritten : Model → ℕ → Model
@@ -170,8 +172,8 @@ cpsrWritten m v = withControl m (record { cr0 = m .control .cr0; cr1 = m .contro
 -- ICR: a one clears. RT's bit restarts the count too.
 unfoldable pub icrWritten : Model → ℕ → Model
 icrWritten m v =
-    withTimeout (withRor m (m .ror && not (bitAt v 1)))
-    (record { rt = m .timeout .rt && not (bitAt v 2); count = keptCount (not (bitAt v 2)) (m .timeout .count) })
+    withTimeout (withRor m (m .ror && not (bitAt v 0)))
+    (record { rt = m .timeout .rt && not (bitAt v 1); count = keptCount (not (bitAt v 1)) (m .timeout .count) })
 
 -- A written DR is the newest word to send.
 unfoldable pub drWritten : Model → ℕ → Model
@@ -183,7 +185,7 @@ imscWritten m v = withMasks m (record { imsc = v % 0x10; dmacr = m .masks .dmacr
 unfoldable pub dmacrWritten : Model → ℕ → Model
 dmacrWritten m v = withMasks m (record { imsc = m .masks .imsc; dmacr = v % 0x4 })
 
--- What a write that is done leaves.
+-- What a write that is done leaves; the places without a line of their own refuse every write.
 abbrev pub writeDone : Model → Place → ℕ → Model
 writeDone m Cr0 v = cr0Written m v
 writeDone m Cr1 v = cr1Written m v

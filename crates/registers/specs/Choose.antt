@@ -1,9 +1,13 @@
 -- What every definition of this crate branches and picks bits with.
-use Prim.Native.Nat.{ℕ, _/_, _%_}
-use mathlib.Core.Bool.{Bool}
+use Prim.Native.Nat.{ℕ, _/_, _%_, _^_}
+use mathlib.Core.Bool.{Bool, not}
 use lib.Dec.{eqb}
 pub use Rattle.queue.specs.Choose.{pick}
 
--- The bit of a value that has this weight, a power of two.
+-- Bit k of a value is set.
 abbrev pub bitAt : ℕ → ℕ → Bool
-bitAt value weight = eqb (value / weight % 2) 1
+bitAt v k = eqb (v / 2 ^ k % 2) 1
+
+-- Two values differ in bit k.
+abbrev pub bitsDiffer : ℕ → ℕ → ℕ → Bool
+bitsDiffer v w k = not (eqb (v / 2 ^ k % 2) (w / 2 ^ k % 2))

@@ -34,10 +34,10 @@ rawOf m = record { tx = leb (length (m .tx)) 4; rx = leb 4 (length (m .rx)); rt 
 unfoldable pub maskedOf : Model → Interrupts
 maskedOf m =
     record {
-      tx = rawOf m .tx && bitAt (m .masks .imsc) 8;
-      rx = rawOf m .rx && bitAt (m .masks .imsc) 4;
-      rt = rawOf m .rt && bitAt (m .masks .imsc) 2;
-      ror = rawOf m .ror && bitAt (m .masks .imsc) 1;
+      tx = rawOf m .tx && bitAt (m .masks .imsc) 3;
+      rx = rawOf m .rx && bitAt (m .masks .imsc) 2;
+      rt = rawOf m .rt && bitAt (m .masks .imsc) 1;
+      ror = rawOf m .ror && bitAt (m .masks .imsc) 0;
     }
 
 -- RIS and MIS: TX 3, RX 2, RT 1, ROR 0.

@@ -36,19 +36,19 @@ pub record HalfOf (c : Control) (r : ℕ) : Type 0 where
 
 -- SSE, CR1's bit 1: the port is enabled.
 unfoldable pub enabledOf : Control → Bool
-enabledOf c = bitAt (c .cr1) 2
+enabledOf c = bitAt (c .cr1) 1
 
 -- All that the engine goes by: SPH is CR0's bit 7 and SPO its bit 6, MS CR1's bit 2, SOD its bit 3, LBM its bit 0.
 unfoldable pub settingsOf : Control → Settings
 settingsOf c =
     record {
       format = formatOf (c .cr0);
-      phase = bitAt (c .cr0) 128;
-      polarity = bitAt (c .cr0) 64;
+      phase = bitAt (c .cr0) 7;
+      polarity = bitAt (c .cr0) 6;
       bits = bitsOf (c .cr0);
       half = halfOf c;
-      slave = bitAt (c .cr1) 4;
-      silent = bitAt (c .cr1) 8;
-      loopback = bitAt (c .cr1) 1;
+      slave = bitAt (c .cr1) 2;
+      silent = bitAt (c .cr1) 3;
+      loopback = bitAt (c .cr1) 0;
       enabled = enabledOf c;
     }

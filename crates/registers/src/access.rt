@@ -9,7 +9,6 @@ use crate::Registers;
 use crate::Timeout;
 use crate::offsets::Place;
 use crate::time::Cycles;
-use queue::Oldest;
 
 // Refusal numbers, in the order in which they are checked.
 pub const DONE: u8 = 0;
@@ -193,7 +192,7 @@ fn cr1_rule(r: Registers, value: u32) -> u8
 {
     let on = crate::settings::enabled(r);
     let old = r.control.cr1 as u32;
-    let held = on & ((old / 4 % 2 != value / 4 % 2) | (old % 2 != value % 2));
+    let held = on & ((old / 4 % 2 != value / 4 % 2) | (old / 1 % 2 != value / 1 % 2));
     let good = crate::settings::permitted(r.control.cr0 as u32);
     let unready = (value / 2 % 2 == 1) & (!good | (r.control.cpsr == 0));
     if held {

@@ -46,7 +46,7 @@ fn format_of(cr0: u16) -> Format
     }
 }
 
-// Whether CR0 may hold this value: a format below 3, at least four bits.
+// Whether the low 16 bits are a permitted CR0: a format below 3, at least four bits.
 pub fn permitted(cr0: u32) -> bool
     ensures { λ r. ⌜ r ≡ permittedOf cr0 ⌝ }
 {

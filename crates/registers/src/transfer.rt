@@ -1,18 +1,11 @@
 // What the serial engine needs of the register file.
 ghost use mathlib.Core.Path.{_≡_};
 ghost use Rattle.registers.specs.Model.{modelOf};
-ghost use Rattle.registers.specs.Transfer.{waitingOf, TakenAs, receivedModel, idlesOf, LimitOf, timeoutOf, endedModel};
+ghost use Rattle.registers.specs.Transfer.{waitingOf, nextWord, sentModel, receivedModel, idlesOf, LimitOf, timeoutOf, endedModel};
 use crate::Registers;
 use crate::Timeout;
 use crate::time::Cycles;
 use crate::time::Slots;
-use queue::Oldest;
-
-// A word to send, taken out of the queue; 0 where there was none.
-pub struct Taken {
-    pub word: u16,
-    pub registers: Registers,
-}
 
 // RT comes after 32 bit times.
 const TIMEOUT: Slots = Slots(64);
@@ -26,19 +19,22 @@ pub fn waiting(r: Registers) -> bool
     on & (n != 0)
 }
 
-// The oldest word to send is taken.
-pub fn take_word(r: Registers) -> Taken
-    ensures { λ o. ⌜ TakenAs (modelOf r) o ⌝ }
+// The oldest word to send; 0 where there is none.
+pub fn next_word(r: Registers) -> u16
+    ensures { λ w. ⌜ w ≡ nextWord (modelOf r) ⌝ }
 {
-    let word = queue::word_at(r.tx, 0);
+    queue::word_at(r.tx, 0)
+}
+
+// The register file without the oldest word to send.
+pub fn word_taken(r: Registers) -> Registers
+    ensures { λ n. ⌜ modelOf n ≡ sentModel (modelOf r) ⌝ }
+{
     let out = queue::take_oldest(r.tx);
     let tx = out.queue;
     let mut next = r;
     next.tx = tx;
-    Taken {
-        word,
-        registers: next,
-    }
+    next
 }
 
 // A completed word: kept, or lost with the overrun flag set.
@@ -63,12 +59,12 @@ fn idles(r: Registers, frame: bool) -> bool
 }
 
 // The cycles after which RT is set.
-fn limit(r: Registers) -> u32
+fn limit(r: Registers) -> Cycles
     ensures { λ n. ⌜ LimitOf (modelOf r) n ⌝ }
 {
     let c = r.control;
     let h = crate::settings::half_of(c);
-    crate::time::cycles_of(TIMEOUT, h).0
+    crate::time::cycles_of(TIMEOUT, h)
 }
 
 fn timeout_of(r: Registers, frame: bool) -> Timeout
@@ -77,7 +73,7 @@ fn timeout_of(r: Registers, frame: bool) -> Timeout
     let counts = idles(r, frame);
     if counts {
         let next = r.timeout.count.0 as u64 + 1;
-        let most = limit(r) as u64;
+        let most = limit(r).0 as u64;
         let reached = most <= next;
         if reached {
             return Timeout {

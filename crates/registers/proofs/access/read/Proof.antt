@@ -1,4 +1,5 @@
 use borrow.Author.Tests.{eq-eqb, ne-eqb}
+use mathlib.Core.Path.{sym}
 use Rattle.registers.specs.Access.{readAnswer, readModel}
 use borrow.Author.Needs.{needs}
 use Rattle.registers.proofs.access.read.Statement.{statement}
@@ -14,6 +15,8 @@ returns : tie.Need-returns
 unfolding readAnswer readModel
 returns c = record {
   answer = simp (← c .before .before .place-of .ensures, ← c .before .read-refusal .ensures, ne-eqb _ _ (c .if1 .taken));
+  refusal = rw (← c .before .before .place-of .ensures) (c .before .read-refusal .ensures);
+  word = simp (← c .before .before .place-of .ensures, ← c .before .read-refusal .ensures, ne-eqb _ _ (c .if1 .taken));
   model = simp (← c .before .before .place-of .ensures, ← c .before .read-refusal .ensures, ne-eqb _ _ (c .if1 .taken));
 }
 
@@ -27,6 +30,8 @@ returns-2 : tie.Need-returns-2
 unfolding readAnswer readModel
 returns-2 c = record {
   answer = simp (← c .before .before .before .before .place-of .ensures, ← c .before .before .before .read-refusal .ensures, eq-eqb _ _ (c .before .before .if1 .left), c .before .read-word .ensures);
+  refusal = rw (← c .before .before .before .before .place-of .ensures, ← c .before .before .before .read-refusal .ensures) (sym (c .before .before .if1 .left));
+  word = simp (← c .before .before .before .before .place-of .ensures, ← c .before .before .before .read-refusal .ensures, eq-eqb _ _ (c .before .before .if1 .left), c .before .read-word .ensures);
   model = simp (← c .before .before .before .before .place-of .ensures, ← c .before .before .before .read-refusal .ensures, eq-eqb _ _ (c .before .before .if1 .left), c .read-done .ensures);
 }
 

@@ -26,16 +26,16 @@ cast-most c = search needs
 
 returns : tie.Need-returns
 unfolding timeoutOf
-returns c = rw (← c .before .before .before .before .idles .ensures, c .before .before .before .if1 .taken, ← c .before .limit .ensures .limit, model-of, c .if2 .taken)
+returns c = rw (← c .before .before .before .before .before .idles .ensures, c .before .before .before .before .if1 .taken, ← c .before .before .limit .ensures .limit, model-of, c .if2 .taken)
 
-cast-t9 : tie.Need-cast-t9
-cast-t9 c = search needs
+cast-t12 : tie.Need-cast-t12
+cast-t12 c = search needs
 
 returns-2 : tie.Need-returns-2
 unfolding timeoutOf
-returns-2 c = let h = leb-false (c .before .limit .result) (c .before .before .before .before .before .args .r .timeout .count .0 + 1) (c .if2 .left) in
-    let small : (c .before .before .before .before .before .args .r .timeout .count .0 + 1) % 4294967296 ≡ c .before .before .before .before .before .args .r .timeout .count .0 + 1 = mod-eq-of-lt (omega (arith, c .before .limit .ensures .most)) in
-    rw (← c .before .before .before .before .idles .ensures, c .before .before .before .if1 .taken, ← c .before .limit .ensures .limit, model-of, c .if2 .left, small)
+returns-2 c = let h = leb-false (c .before .before .limit .result .0) (c .before .before .before .before .before .before .args .r .timeout .count .0 + 1) (c .if2 .left) in
+    let small : (c .before .before .before .before .before .before .args .r .timeout .count .0 + 1) % 4294967296 ≡ c .before .before .before .before .before .before .args .r .timeout .count .0 + 1 = mod-eq-of-lt (omega (arith, c .before .before .limit .ensures .most)) in
+    rw (← c .before .before .before .before .before .idles .ensures, c .before .before .before .before .if1 .taken, ← c .before .before .limit .ensures .limit, model-of, c .if2 .left, small)
 
 returns-3 : tie.Need-returns-3
 unfolding timeoutOf
@@ -51,6 +51,6 @@ timeout-of-spec =
     limit-requires
     cast-most
     returns
-    cast-t9
+    cast-t12
     returns-2
     returns-3)
