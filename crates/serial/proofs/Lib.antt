@@ -1,0 +1,2 @@
+mod Picks
+mod Words

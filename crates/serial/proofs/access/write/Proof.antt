@@ -1,0 +1,36 @@
+use Rattle.serial.specs.Access.{engineAfter, writeDevice, writeRefusalOf}
+use Rattle.serial.specs.Cycle.{deviceOf}
+use borrow.Author.Needs.{needs}
+use Rattle.serial.proofs.access.write.Statement.{statement}
+use Rattle.serial.proofs.access.write.Tie as tie
+
+enabled-requires : tie.Need-enabled-requires
+enabled-requires c κs = search needs
+
+write-requires : tie.Need-write-requires
+write-requires c κs = search needs
+
+enabled-requires-2 : tie.Need-enabled-requires-2
+enabled-requires-2 c κs = search needs
+
+cleared-requires : tie.Need-cleared-requires
+cleared-requires c κs = search needs
+
+returns : tie.Need-returns
+unfolding deviceOf writeRefusalOf writeDevice engineAfter
+returns c = record { refusal = c .before .before .before .before .write .ensures .refusal; device = rw (← c .before .before .before .before .write .ensures .model, ← c .before .before .before .before .before .enabled .ensures, ← c .before .before .enabled2 .ensures, c .before .if1 .taken, c .cleared .ensures) }
+
+returns-2 : tie.Need-returns-2
+unfolding deviceOf writeRefusalOf writeDevice engineAfter
+returns-2 c = record { refusal = c .before .before .before .write .ensures .refusal; device = rw (← c .before .before .before .write .ensures .model, ← c .before .before .before .before .enabled .ensures, ← c .before .enabled2 .ensures, c .if1 .left) }
+
+pub write-spec : {M : Type 1} → statement M
+write-spec =
+    tie.close
+    (tie.spec
+    enabled-requires
+    write-requires
+    enabled-requires-2
+    cleared-requires
+    returns
+    returns-2)

@@ -1,0 +1,14 @@
+use Rattle.serial.specs.Lines.{frameLines}
+use borrow.Author.Needs.{needs}
+use Rattle.serial.proofs.lines.frame_lines.Statement.{statement}
+use Rattle.serial.proofs.lines.frame_lines.Tie as tie
+
+clock-on-requires : tie.Need-clock-on-requires
+clock-on-requires c κs = search needs
+
+returns : tie.Need-returns
+unfolding frameLines
+returns c = rw (c .clock-on .ensures)
+
+pub frame-lines-spec : {M : Type 1} → statement M
+frame-lines-spec = tie.close (tie.spec clock-on-requires returns)

@@ -1,0 +1,25 @@
+use Rattle.serial.specs.Lines.{masterLines}
+use borrow.Author.Needs.{needs}
+use Rattle.serial.proofs.lines.master_lines.Statement.{statement}
+use Rattle.serial.proofs.lines.master_lines.Tie as tie
+
+levels-of-requires : tie.Need-levels-of-requires
+levels-of-requires c κs = search needs
+
+frame-lines-requires : tie.Need-frame-lines-requires
+frame-lines-requires c κs = search needs
+
+returns : tie.Need-returns
+unfolding masterLines
+returns c = rw (c .before .before .before .if1 .taken, c .frame-lines .ensures, c .before .levels-of .ensures)
+
+idle-on-requires : tie.Need-idle-on-requires
+idle-on-requires c κs = search needs
+
+returns-2 : tie.Need-returns-2
+unfolding masterLines
+returns-2 c = rw (c .before .if1 .left) (c .idle-on .ensures)
+
+pub master-lines-spec : {M : Type 1} → statement M
+master-lines-spec =
+    tie.close (tie.spec levels-of-requires frame-lines-requires returns idle-on-requires returns-2)

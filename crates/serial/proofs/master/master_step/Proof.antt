@@ -1,0 +1,39 @@
+use Rattle.serial.specs.Master.{masterStep}
+use borrow.Author.Needs.{needs}
+use Rattle.serial.proofs.master.master_step.Statement.{statement}
+use Rattle.serial.proofs.master.master_step.Tie as tie
+
+acting-requires : tie.Need-acting-requires
+acting-requires c κs = search needs
+
+event-of-requires : tie.Need-event-of-requires
+event-of-requires c κs = search needs
+
+data-bit-requires : tie.Need-data-bit-requires
+data-bit-requires c κs = search needs
+
+act-requires : tie.Need-act-requires
+act-requires c κs = search needs
+
+returns : tie.Need-returns
+unfolding masterStep
+returns c = rw (← c .before .before .before .before .acting .ensures, c .before .before .before .if1 .taken, c .act .ensures, c .before .before .event-of .ensures, c .before .data-bit .ensures)
+
+still-requires : tie.Need-still-requires
+still-requires c κs = search needs
+
+returns-2 : tie.Need-returns-2
+unfolding masterStep
+returns-2 c = rw (← c .before .before .acting .ensures, c .before .if1 .left, c .still .ensures)
+
+pub master-step-spec : {M : Type 1} → statement M
+master-step-spec =
+    tie.close
+    (tie.spec
+    acting-requires
+    event-of-requires
+    data-bit-requires
+    act-requires
+    returns
+    still-requires
+    returns-2)

@@ -1,0 +1,66 @@
+use Prim.Native.Nat.{_+_}
+use Rattle.serial.proofs.Words.{next-small}
+use Rattle.serial.specs.Master.{ticked}
+use borrow.Author.Tests.{ltb-true}
+use native.Mathlib.Omega.{arith}
+use borrow.Author.Needs.{needs}
+use Rattle.serial.proofs.master.ticked.Statement.{statement}
+use Rattle.serial.proofs.master.ticked.Tie as tie
+
+cast-gone : tie.Need-cast-gone
+cast-gone c = search needs
+
+add-gone : tie.Need-add-gone
+add-gone c = search needs
+
+cast-within : tie.Need-cast-within
+cast-within c = search needs
+
+cast-t16 : tie.Need-cast-t16
+cast-t16 c = search needs
+
+returns : tie.Need-returns
+unfolding ticked
+returns c = let h = ltb-true (c .before .before .before .args .e .gone .0 + 1) (c .before .before .before .args .s .half) (c .if1 .taken) in
+    rw (c .if1 .taken, next-small (c .before .before .before .args .e .gone .0) (c .before .before .before .args .s .half) 4294967296 (omega arith) (search needs))
+
+last-slot-requires : tie.Need-last-slot-requires
+last-slot-requires c κs = search needs
+
+cast-t17 : tie.Need-cast-t17
+cast-t17 c = search needs
+
+add-t18 : tie.Need-add-t18
+add-t18 c = search needs
+
+cast-t20 : tie.Need-cast-t20
+cast-t20 c = search needs
+
+returns-2 : tie.Need-returns-2
+unfolding ticked
+returns-2 c = let h = ltb-true (c .before .before .before .before .before .args .e .slot .0) (c .before .last-slot .result) (c .if2 .taken) in
+    rw (c .before .before .if1 .left, ← c .before .last-slot .ensures, c .if2 .taken, next-small (c .before .before .before .before .before .args .e .slot .0) (c .before .last-slot .result) 65536 h (search needs))
+
+cleared-requires : tie.Need-cleared-requires
+cleared-requires c κs = search needs
+
+returns-3 : tie.Need-returns-3
+unfolding ticked
+returns-3 c = rw (c .before .before .before .if1 .left, ← c .before .before .last-slot .ensures, c .before .if2 .left) (c .cleared .ensures)
+
+pub ticked-spec : {M : Type 1} → statement M
+ticked-spec =
+    tie.close
+    (tie.spec
+    cast-gone
+    add-gone
+    cast-within
+    cast-t16
+    returns
+    last-slot-requires
+    cast-t17
+    add-t18
+    cast-t20
+    returns-2
+    cleared-requires
+    returns-3)

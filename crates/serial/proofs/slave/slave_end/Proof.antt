@@ -1,0 +1,18 @@
+use Rattle.serial.specs.Slave.{slaveEnd}
+use borrow.Author.Needs.{needs}
+use Rattle.serial.proofs.slave.slave_end.Statement.{statement}
+use Rattle.serial.proofs.slave.slave_end.Tie as tie
+
+ended-on-requires : tie.Need-ended-on-requires
+ended-on-requires c κs = search needs
+
+returns : tie.Need-returns
+unfolding slaveEnd
+returns c = rw (c .before .if1 .taken) (c .ended-on .ensures)
+
+returns-2 : tie.Need-returns-2
+unfolding slaveEnd
+returns-2 c = rw (c .if1 .left)
+
+pub slave-end-spec : {M : Type 1} → statement M
+slave-end-spec = tie.close (tie.spec ended-on-requires returns returns-2)

@@ -1,0 +1,43 @@
+-- Register accesses to a device. They fall between cycles: pins and lines stay.
+use Prim.Native.Nat.{ℕ}
+use mathlib.Core.Path.{_≡_}
+use mathlib.Core.Bool.{Bool, not, _&&_}
+use Rattle.registers.specs.Choose.{pick}
+use Rattle.registers.specs.Offsets.{placeOf}
+use Rattle.registers.specs.Settings.{enabledOf}
+use Rattle.registers.specs.Access.{readAnswer, readModel, writeRefusal, writeModel}
+use Rattle.registers.specs.Model.{Model}
+use Rattle.registers.specs.declared.access.Answer.{Answer}
+use Rattle.serial.specs.Engine.{cleared}
+use Rattle.serial.specs.Cycle.{DeviceModel, deviceOf}
+use Rattle.serial.specs.declared.engine.Engine.{Engine}
+use Rattle.serial.specs.declared.access.Reading.{Reading}
+use Rattle.serial.specs.declared.access.Written.{Written}
+
+-- What a read answers; BSY takes the frame in progress from the engine.
+unfoldable pub readAnswerOf : DeviceModel → ℕ → Answer
+readAnswerOf d o = readAnswer (d .registers) (d .engine .frame) o
+
+unfoldable pub readDevice : DeviceModel → ℕ → DeviceModel
+readDevice d o = record { registers = readModel (d .registers) o; engine = d .engine; pins = d .pins; lines = d .lines }
+
+-- The refusal number of a write, 0 if it is done.
+unfoldable pub writeRefusalOf : DeviceModel → ℕ → ℕ → ℕ
+writeRefusalOf d o v = writeRefusal (d .registers) (placeOf o) v
+
+-- Clearing SSE ends a frame or an idle slot at once: the engine is clear.
+unfoldable pub engineAfter : Model → Model → Engine → Engine
+engineAfter old new e = pick (enabledOf (old .control) && not (enabledOf (new .control))) cleared e
+
+unfoldable pub writeDevice : DeviceModel → ℕ → ℕ → DeviceModel
+writeDevice d o v =
+    let m = writeModel (d .registers) o v in
+    record { registers = m; engine = engineAfter (d .registers) m (d .engine); pins = d .pins; lines = d .lines }
+
+pub record ReadAs (d : DeviceModel) (o : ℕ) (r : Reading) : Type 0 where
+  pub answer : r .answer ≡ readAnswerOf d o
+  pub device : deviceOf (r .device) ≡ readDevice d o
+
+pub record WrittenAs (d : DeviceModel) (o v : ℕ) (r : Written) : Type 0 where
+  pub refusal : r .refusal ≡ writeRefusalOf d o v
+  pub device : deviceOf (r .device) ≡ writeDevice d o v

@@ -1,0 +1,95 @@
+-- A device, and one cycle of it.
+use Prim.Native.Nat.{ℕ}
+use mathlib.Core.Path.{_≡_}
+use mathlib.Core.Bool.{Bool, true, false}
+use mathlib.Core.List.{List, [], _∷_}
+use Rattle.registers.specs.Choose.{pick}
+use Rattle.registers.specs.Model.{Model, modelOf, resetModel}
+use Rattle.registers.specs.Settings.{settingsOf}
+use Rattle.registers.specs.Transfer.{waitingOf, nextWord, sentModel, receivedModel, endedModel}
+use Rattle.registers.specs.declared.settings.Settings.{Settings}
+use Rattle.serial.specs.Engine.{cleared, still}
+use Rattle.serial.specs.Lines.{linesOf}
+use Rattle.serial.specs.Master.{masterStep, masterEnd}
+use Rattle.serial.specs.Slave.{slaveStep, slaveEnd}
+use Rattle.serial.specs.declared.Device.{Device}
+use Rattle.serial.specs.declared.History.{History}
+use Rattle.serial.specs.declared.engine.Engine.{Engine}
+use Rattle.serial.specs.declared.engine.Step.{Step}
+use Rattle.serial.specs.declared.lines.Lines.{Lines}
+use Rattle.serial.specs.declared.lines.Pins.{Pins}
+
+-- A device as the definitions see it.
+pub record DeviceModel : Type 0 where
+  pub registers : Model
+  pub engine : Engine
+  -- the pins of the last three cycles
+  pub pins : History
+  -- the lines of the last cycle
+  pub lines : Lines
+
+unfoldable pub deviceOf : Device → DeviceModel
+deviceOf d = record { registers = modelOf (d .registers); engine = d .engine; pins = d .pins; lines = d .lines }
+
+-- Pins count as LOW before the first cycle.
+abbrev pub lowPins : Pins
+lowPins = record { clk = false; fss = false; rxd = false }
+
+-- After reset the output is the idle one: Motorola, SPO 0.
+abbrev pub resetDevice : DeviceModel
+resetDevice =
+    record {
+      registers = resetModel;
+      engine = cleared;
+      pins = record { newest = lowPins; middle = lowPins; oldest = lowPins };
+      lines = record { clk = false; fss = true; txd = false; released = true };
+    }
+
+-- The engine's step. With SSE clear it is clear; a slave sees the pins of two cycles ago, a master those of this one.
+unfoldable pub stepOf : Settings → Engine → History → Pins → Bool → ℕ → Step
+stepOf s e h pins waiting next =
+    pick (s .enabled)
+    (pick (s .slave) (slaveStep s e (h .oldest) (h .middle) next) (masterStep s e waiting next (pins .rxd)))
+    (still cleared)
+
+-- The engine at the end of the cycle.
+unfoldable pub endOf : Settings → Engine → Engine
+endOf s e = pick (s .slave) (slaveEnd s e) (masterEnd s e)
+
+-- The word taken leaves the transmit queue.
+unfoldable pub takenModel : Model → Bool → Model
+takenModel m takes = pick takes (sentModel m) m
+
+-- The word completed enters the receive queue.
+unfoldable pub completeModel : Model → Bool → ℕ → Model
+completeModel m complete w = pick complete (receivedModel m w) m
+
+-- The register file after a step.
+abbrev pub stepModel : Model → Step → Model
+stepModel m r = completeModel (takenModel m (r .takes)) (r .complete) (r .word)
+
+-- The step of a device in a cycle.
+unfoldable pub deviceStep : DeviceModel → Pins → Step
+deviceStep d pins =
+    stepOf (settingsOf (d .registers .control)) (d .engine) (d .pins) pins (waitingOf (d .registers)) (nextWord (d .registers))
+
+-- The words completed in a cycle: none or one.
+unfoldable pub completedOf : DeviceModel → Pins → List ℕ
+completedOf d pins = pick (deviceStep d pins .complete) (deviceStep d pins .word ∷ []) []
+
+-- The pins of the last three cycles, this one included. They are followed with SSE clear too.
+abbrev pub follow : History → Pins → History
+follow h pins = record { newest = pins; middle = h .newest; oldest = h .middle }
+
+-- One cycle: the engine's step, the queues, the timeout by the state at the end, the pins, the lines.
+unfoldable pub cycleOf : DeviceModel → Pins → DeviceModel
+cycleOf d pins =
+    let s = settingsOf (d .registers .control) in
+    let r = deviceStep d pins in
+    let e = endOf s (r .engine) in
+    record {
+      registers = endedModel (stepModel (d .registers) r) (e .frame);
+      engine = e;
+      pins = follow (d .pins) pins;
+      lines = linesOf s (r .engine);
+    }

@@ -1,0 +1,115 @@
+-- What a slave does in a cycle: it sees each pin as it stood two cycles earlier, and an edge against the cycle before.
+use Prim.Native.Nat.{ℕ, _+_}
+use mathlib.Core.Bool.{Bool, true, false, not, _&&_, _||_}
+use lib.Dec.{ltb, leb, eqb}
+use Rattle.registers.specs.Choose.{pick}
+use Rattle.registers.specs.declared.settings.Format.{Format}
+use Rattle.registers.specs.declared.settings.Format.the-variants.{Motorola, Ti, Microwire, Reserved}
+use Rattle.registers.specs.declared.settings.Settings.{Settings}
+use Rattle.serial.specs.Engine.{clearShift, cleared, withShift, withFrame, started, driven, still, begun, captureStep}
+use Rattle.serial.specs.Lines.{differ}
+use Rattle.serial.specs.Master.{dataBit}
+use Rattle.serial.specs.declared.engine.Engine.{Engine}
+use Rattle.serial.specs.declared.engine.Step.{Step}
+use Rattle.serial.specs.declared.lines.Pins.{Pins}
+
+-- Motorola -------------------------------------------------------------------------------------------------------------
+
+-- The engine selected by a FSS fall.
+abbrev pub selectedOf : Engine → Engine
+selectedOf e = record { slot = e .slot; gone = e .gone; frame = false; selected = true; mark = e .mark; shift = clearShift }
+
+-- A FSS fall selects; with SPH 0 the next word to send, zeros if there is none, is taken then and its first bit driven.
+unfoldable pub motorolaSelect : Settings → Engine → Bool → ℕ → Step
+motorolaSelect s e fell next =
+    pick fell (pick (s .phase) (still (selectedOf e)) (begun (selectedOf e) (started (s .bits) next))) (still e)
+
+-- The clock edge to the active level, and the one back.
+abbrev pub toActive : Settings → Pins → Pins → Bool
+toActive s before seen = not (differ (before .clk) (s .polarity)) && differ (seen .clk) (s .polarity)
+
+abbrev pub toIdle : Settings → Pins → Pins → Bool
+toIdle s before seen = differ (before .clk) (s .polarity) && not (differ (seen .clk) (s .polarity))
+
+-- SPH 0 captures at edges to active and drives at the others; SPH 1 the other way round.
+unfoldable pub captureEdge : Settings → Pins → Pins → Bool
+captureEdge s before seen = pick (s .phase) (toIdle s before seen) (toActive s before seen)
+
+unfoldable pub driveEdge : Settings → Pins → Pins → Bool
+driveEdge s before seen = pick (s .phase) (toActive s before seen) (toIdle s before seen)
+
+-- In a word: RXD captured at capture edges, bit c driven at the others. Out of a word: with SPH 1 the next word is taken at an edge to active.
+unfoldable pub motorolaClock : Settings → Engine → Bool → Bool → ℕ → Bool → Step
+motorolaClock s e captures drives next bit =
+    pick (e .frame && captures) (captureStep (s .bits) bit e)
+    (pick (e .frame && drives) (still (withShift e (driven (s .bits) (e .shift .captured) (e .shift))))
+    (pick (drives && s .phase) (begun e (started (s .bits) next))
+    (still e)))
+
+-- Two steps of one cycle, of which the first completes no word.
+abbrev pub afterTaking : Bool → Step → Step
+afterTaking took r = record { engine = r .engine; takes = took || r .takes; complete = r .complete; word = r .word }
+
+-- The clock counts while selected.
+unfoldable pub motorolaEdges : Settings → Step → Pins → Pins → ℕ → Step
+motorolaEdges s r before seen next =
+    pick (r .engine .selected)
+    (afterTaking (r .takes) (motorolaClock s (r .engine) (captureEdge s before seen) (driveEdge s before seen) next (dataBit s (r .engine) (seen .rxd))))
+    r
+
+-- FSS HIGH deselects and drops a part word; FSS comes before CLK.
+unfoldable pub motorolaSlave : Settings → Engine → Pins → Pins → ℕ → Step
+motorolaSlave s e before seen next =
+    pick (seen .fss) (still cleared)
+    (motorolaEdges s (motorolaSelect s e (before .fss) next) before seen next)
+
+-- TI -------------------------------------------------------------------------------------------------------------------
+
+abbrev pub withMark : Engine → Bool → Engine
+withMark e m = record { slot = e .slot; gone = e .gone; frame = e .frame; selected = e .selected; mark = m; shift = e .shift }
+
+-- A falling edge in a word captures a bit. With FSS HIGH it marks a start; before the last bit it drops the part word.
+unfoldable pub tiFalls : Settings → Engine → Bool → Bool → Step
+tiFalls s e fss bit =
+    pick (e .frame)
+    (pick (fss && ltb (e .shift .captured + 1) (s .bits))
+    (still (withMark (withFrame e false clearShift) true))
+    (captureStep (s .bits) bit (withMark e (e .mark || fss))))
+    (still (withMark e (e .mark || fss)))
+
+-- A rising edge after a mark takes the next word and drives its first bit; in a word it drives bit c.
+unfoldable pub tiRises : Settings → Engine → ℕ → Step
+tiRises s e next =
+    pick (e .mark) (begun (withMark e false) (started (s .bits) next))
+    (pick (e .frame) (still (withShift e (driven (s .bits) (e .shift .captured) (e .shift))))
+    (still e))
+
+unfoldable pub tiSlave : Settings → Engine → Pins → Pins → ℕ → Step
+tiSlave s e before seen next =
+    pick (before .clk && not (seen .clk)) (tiFalls s e (seen .fss) (dataBit s e (seen .rxd)))
+    (pick (not (before .clk) && seen .clk) (tiRises s e next)
+    (still e))
+
+-- Both -----------------------------------------------------------------------------------------------------------------
+
+-- A Microwire slave stays idle.
+abbrev pub slaveOn : Format → Settings → Engine → Pins → Pins → ℕ → Step
+slaveOn Motorola s e before seen next = motorolaSlave s e before seen next
+slaveOn Ti s e before seen next = tiSlave s e before seen next
+slaveOn Microwire s e before seen next = still cleared
+slaveOn Reserved s e before seen next = still cleared
+
+-- The engine after the cycle's edges, as its lines show it.
+unfoldable pub slaveStep : Settings → Engine → Pins → Pins → ℕ → Step
+slaveStep s e before seen next = slaveOn (s .format) s e before seen next
+
+-- With the last capture the frame is over; a Motorola slave's TXD holds, a TI slave's lines are idle from the next cycle on.
+abbrev pub endedOn : Format → Engine → Engine
+endedOn Motorola e = withFrame e false (e .shift)
+endedOn Ti e = withFrame e false clearShift
+endedOn Microwire e = withFrame e false clearShift
+endedOn Reserved e = withFrame e false clearShift
+
+-- The end of a slave's cycle.
+unfoldable pub slaveEnd : Settings → Engine → Engine
+slaveEnd s e = pick (e .frame && leb (s .bits) (e .shift .captured)) (endedOn (s .format) e) e

@@ -1,0 +1,48 @@
+// Register accesses to a device. They fall between cycles: pins and lines stay.
+ghost use mathlib.Core.Path.{_≡_};
+ghost use Rattle.serial.specs.Cycle.{deviceOf};
+ghost use Rattle.serial.specs.Access.{ReadAs, WrittenAs};
+use crate::Device;
+use registers::access::Answer;
+
+pub struct Reading {
+    pub answer: Answer,
+    pub device: Device,
+}
+
+pub struct Written {
+    pub refusal: u8,
+    pub device: Device,
+}
+
+// A register read.
+pub fn read(d: Device, offset: u32) -> Reading
+    ensures { λ r. ⌜ ReadAs (deviceOf d) offset r ⌝ }
+{
+    let out = registers::access::read(d.registers, offset, d.engine.frame);
+    let registers = out.registers;
+    let answer = out.answer;
+    let mut device = d;
+    device.registers = registers;
+    Reading { answer, device }
+}
+
+// A register write; clearing SSE clears the engine.
+pub fn write(d: Device, offset: u32, value: u32) -> Written
+    ensures { λ r. ⌜ WrittenAs (deviceOf d) offset value r ⌝ }
+{
+    let was = registers::settings::enabled(d.registers);
+    let out = registers::access::write(d.registers, offset, value);
+    let registers = out.registers;
+    let is = registers::settings::enabled(registers);
+    let stops = was & !is;
+    let mut device = d;
+    device.registers = registers;
+    if stops {
+        device.engine = crate::engine::cleared();
+    }
+    Written {
+        refusal: out.refusal,
+        device,
+    }
+}

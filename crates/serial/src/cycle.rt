@@ -1,0 +1,89 @@
+// One cycle of a device.
+ghost use mathlib.Core.Path.{_≡_};
+ghost use Rattle.registers.specs.Model.{modelOf};
+ghost use Rattle.serial.specs.Cycle.{deviceOf, stepOf, endOf, takenModel, completeModel, cycleOf};
+use crate::Device;
+use crate::History;
+use crate::engine::Engine;
+use crate::engine::Step;
+use crate::lines::Pins;
+use registers::Registers;
+use registers::settings::Settings;
+
+fn step_of(s: Settings, e: Engine, h: History, pins: Pins, waiting: bool, next: u16) -> Step
+    ensures { λ r. ⌜ r ≡ stepOf s e h pins waiting next ⌝ }
+{
+    let on = s.enabled;
+    let slave = s.slave;
+    if on {
+        if slave {
+            let before = h.oldest;
+            let seen = h.middle;
+            return crate::slave::slave_step(s, e, before, seen, next);
+        }
+        return crate::master::master_step(s, e, waiting, next, pins.rxd);
+    }
+    crate::engine::still(crate::engine::cleared())
+}
+
+fn end_of(s: Settings, e: Engine) -> Engine
+    ensures { λ r. ⌜ r ≡ endOf s e ⌝ }
+{
+    let slave = s.slave;
+    if slave {
+        crate::slave::slave_end(s, e)
+    } else {
+        crate::master::master_end(s, e)
+    }
+}
+
+fn sent(r: Registers, takes: bool) -> Registers
+    ensures { λ n. ⌜ modelOf n ≡ takenModel (modelOf r) takes ⌝ }
+{
+    if takes {
+        registers::transfer::word_taken(r)
+    } else {
+        r
+    }
+}
+
+fn received(r: Registers, complete: bool, word: u16) -> Registers
+    ensures { λ n. ⌜ modelOf n ≡ completeModel (modelOf r) complete word ⌝ }
+{
+    if complete {
+        registers::transfer::receive(r, word)
+    } else {
+        r
+    }
+}
+
+// One cycle: the engine's step, the queues, the timeout, the pins, the lines.
+pub fn cycle(d: Device, pins: Pins) -> Device
+    ensures { λ n. ⌜ deviceOf n ≡ cycleOf (deviceOf d) pins ⌝ }
+{
+    let r = d.registers;
+    let e = d.engine;
+    let h = d.pins;
+    let s = registers::settings::settings_of(r);
+    let waiting = registers::transfer::waiting(r);
+    let next = registers::transfer::next_word(r);
+    let step = step_of(s, e, h, pins, waiting, next);
+    let shown = step.engine;
+    let lines = crate::lines::lines_of(s, shown);
+    let after = end_of(s, shown);
+    let without = sent(r, step.takes);
+    let with = received(without, step.complete, step.word);
+    let ended = registers::transfer::end_cycle(with, after.frame);
+    let newest = h.newest;
+    let middle = h.middle;
+    Device {
+        registers: ended,
+        engine: after,
+        pins: History {
+            newest: pins,
+            middle: newest,
+            oldest: middle,
+        },
+        lines,
+    }
+}

@@ -1,0 +1,206 @@
+// The engine's state, and the steps of its shift registers.
+ghost use mathlib.Core.Path.{_≡_};
+ghost use Rattle.serial.specs.Engine.{clearShift, cleared, withShift, withFrame, withSlot, loaded, started, driven, quieted, capturedOf, completes, still, begun, captureStep};
+use registers::time::Cycles;
+use registers::time::Slots;
+
+// The shift registers.
+pub struct Shift {
+    // bits captured of the word being received
+    pub captured: u8,
+    // the data level held on TXD
+    pub level: bool,
+    pub sending: u16,
+    pub receiving: u16,
+}
+
+pub struct Engine {
+    // a master's slot, and the cycles of it that have gone
+    pub slot: Slots,
+    pub gone: Cycles,
+    // a frame is in progress
+    pub frame: bool,
+    // a Motorola slave is selected
+    pub selected: bool,
+    // a TI slave has seen the mark of a start
+    pub mark: bool,
+    pub shift: Shift,
+}
+
+// What a cycle's step leaves.
+pub struct Step {
+    pub engine: Engine,
+    // the next word to send was taken
+    pub takes: bool,
+    // a word was completed: this one, else 0
+    pub complete: bool,
+    pub word: u16,
+}
+
+pub fn clear_shift() -> Shift
+    ensures { λ r. ⌜ r ≡ clearShift ⌝ }
+{
+    Shift {
+        captured: 0,
+        level: false,
+        sending: 0,
+        receiving: 0,
+    }
+}
+
+pub fn cleared() -> Engine
+    ensures { λ r. ⌜ r ≡ cleared ⌝ }
+{
+    Engine {
+        slot: Slots(0),
+        gone: Cycles(0),
+        frame: false,
+        selected: false,
+        mark: false,
+        shift: clear_shift(),
+    }
+}
+
+pub fn with_shift(e: Engine, shift: Shift) -> Engine
+    ensures { λ r. ⌜ r ≡ withShift e shift ⌝ }
+{
+    let mut next = e;
+    next.shift = shift;
+    next
+}
+
+pub fn with_frame(e: Engine, frame: bool, shift: Shift) -> Engine
+    ensures { λ r. ⌜ r ≡ withFrame e frame shift ⌝ }
+{
+    let mut next = e;
+    next.frame = frame;
+    next.shift = shift;
+    next
+}
+
+pub fn with_slot(e: Engine, slot: u16) -> Engine
+    ensures { λ r. ⌜ r ≡ withSlot e slot ⌝ }
+{
+    let place = Slots(slot);
+    let mut next = e;
+    next.slot = place;
+    next
+}
+
+// A word is taken; nothing of it is on TXD yet.
+pub fn loaded(word: u16) -> Shift
+    ensures { λ r. ⌜ r ≡ loaded word ⌝ }
+{
+    Shift {
+        captured: 0,
+        level: false,
+        sending: word,
+        receiving: 0,
+    }
+}
+
+// A word's first bit goes on TXD; its captures begin.
+pub fn started(width: u16, word: u16) -> Shift
+    ensures { λ r. ⌜ r ≡ started width word ⌝ }
+{
+    let level = crate::bits::bit_of(width, word, 0);
+    Shift {
+        captured: 0,
+        level,
+        sending: word,
+        receiving: 0,
+    }
+}
+
+// Bit i of the word being sent goes on TXD.
+pub fn driven(width: u16, i: u16, shift: Shift) -> Shift
+    ensures { λ r. ⌜ r ≡ driven width i shift ⌝ }
+{
+    let level = crate::bits::bit_of(width, shift.sending, i);
+    let mut next = shift;
+    next.level = level;
+    next
+}
+
+// TXD goes LOW.
+pub fn quieted(shift: Shift) -> Shift
+    ensures { λ r. ⌜ r ≡ quieted shift ⌝ }
+{
+    let mut next = shift;
+    next.level = false;
+    next
+}
+
+// A bit is captured; one past the last is not.
+pub fn captured_of(bits: u8, bit: bool, shift: Shift) -> Shift
+    ensures { λ r. ⌜ r ≡ capturedOf bits bit shift ⌝ }
+{
+    let c = shift.captured;
+    if c < bits {
+        let receiving = crate::bits::shifted_in(shift.receiving, bit);
+        return Shift {
+            captured: c + 1,
+            level: shift.level,
+            sending: shift.sending,
+            receiving,
+        };
+    }
+    shift
+}
+
+// Whether the next capture completes a word.
+pub fn completes(bits: u8, shift: Shift) -> bool
+    ensures { λ r. ⌜ r ≡ completes bits shift ⌝ }
+{
+    shift.captured as u16 + 1 == bits as u16
+}
+
+// A step that changes nothing else.
+pub fn still(e: Engine) -> Step
+    ensures { λ r. ⌜ r ≡ still e ⌝ }
+{
+    Step {
+        engine: e,
+        takes: false,
+        complete: false,
+        word: 0,
+    }
+}
+
+// The next word to send is taken, and a frame is in progress.
+pub fn begun(e: Engine, shift: Shift) -> Step
+    ensures { λ r. ⌜ r ≡ begun e shift ⌝ }
+{
+    let next = with_frame(e, true, shift);
+    Step {
+        engine: next,
+        takes: true,
+        complete: false,
+        word: 0,
+    }
+}
+
+// A capture, with the word that it completes.
+pub fn capture_step(bits: u8, bit: bool, e: Engine) -> Step
+    ensures { λ r. ⌜ r ≡ captureStep bits bit e ⌝ }
+{
+    let shift = e.shift;
+    let done = completes(bits, shift);
+    let word = crate::bits::shifted_in(shift.receiving, bit);
+    let after = captured_of(bits, bit, shift);
+    let next = with_shift(e, after);
+    if done {
+        return Step {
+            engine: next,
+            takes: false,
+            complete: true,
+            word,
+        };
+    }
+    Step {
+        engine: next,
+        takes: false,
+        complete: false,
+        word: 0,
+    }
+}

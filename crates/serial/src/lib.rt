@@ -1,0 +1,60 @@
+// The serial engine of the PL022 over its register file: a device by value, one cycle at a time.
+// Every function takes any value of its parameters; contracts cite the definitions of specs/ by the same names.
+ghost use mathlib.Core.Path.{_≡_};
+ghost use Rattle.serial.specs.Cycle.{deviceOf, resetDevice};
+
+pub mod access;
+pub mod bits;
+pub mod cycle;
+pub mod engine;
+pub mod lines;
+pub mod master;
+pub mod slave;
+pub mod slots;
+
+use crate::engine::Engine;
+use crate::lines::Lines;
+use crate::lines::Pins;
+use registers::Registers;
+
+// The pins of the last three cycles.
+pub struct History {
+    pub newest: Pins,
+    pub middle: Pins,
+    pub oldest: Pins,
+}
+
+// A PL022.
+pub struct Device {
+    pub registers: Registers,
+    pub engine: Engine,
+    pub pins: History,
+    // the lines of the last cycle
+    pub lines: Lines,
+}
+
+// A device as after reset.
+pub fn reset() -> Device
+    ensures { λ d. ⌜ deviceOf d ≡ resetDevice ⌝ }
+{
+    let low = Pins {
+        clk: false,
+        fss: false,
+        rxd: false,
+    };
+    Device {
+        registers: registers::reset(),
+        engine: crate::engine::cleared(),
+        pins: History {
+            newest: low,
+            middle: low,
+            oldest: low,
+        },
+        lines: Lines {
+            clk: false,
+            fss: true,
+            txd: false,
+            released: true,
+        },
+    }
+}

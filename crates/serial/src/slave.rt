@@ -1,0 +1,234 @@
+// What a slave does in a cycle: it sees each pin as it stood two cycles earlier, and an edge against the cycle before.
+ghost use mathlib.Core.Path.{_≡_};
+ghost use Rattle.serial.specs.Slave.{selectedOf, motorolaSelect, toActive, toIdle, captureEdge, driveEdge, motorolaClock, afterTaking, motorolaEdges, motorolaSlave, withMark, tiFalls, tiRises, tiSlave, slaveStep, endedOn, slaveEnd};
+use crate::engine::Engine;
+use crate::engine::Step;
+use crate::lines::Pins;
+use registers::settings::Format;
+use registers::settings::Settings;
+
+fn selected_of(e: Engine) -> Engine
+    ensures { λ r. ⌜ r ≡ selectedOf e ⌝ }
+{
+    let none = crate::engine::clear_shift();
+    let mut next = e;
+    next.frame = false;
+    next.selected = true;
+    next.shift = none;
+    next
+}
+
+// A FSS fall selects; with SPH 0 the next word to send is taken then.
+fn motorola_select(s: Settings, e: Engine, fell: bool, next: u16) -> Step
+    ensures { λ r. ⌜ r ≡ motorolaSelect s e fell next ⌝ }
+{
+    let phase = s.phase;
+    if fell {
+        let chosen = selected_of(e);
+        if phase {
+            return crate::engine::still(chosen);
+        }
+        return crate::engine::begun(chosen, crate::engine::started(s.bits as u16, next));
+    }
+    crate::engine::still(e)
+}
+
+fn to_active(s: Settings, before: Pins, seen: Pins) -> bool
+    ensures { λ r. ⌜ r ≡ toActive s before seen ⌝ }
+{
+    let was = crate::lines::differ(before.clk, s.polarity);
+    let is = crate::lines::differ(seen.clk, s.polarity);
+    !was & is
+}
+
+fn to_idle(s: Settings, before: Pins, seen: Pins) -> bool
+    ensures { λ r. ⌜ r ≡ toIdle s before seen ⌝ }
+{
+    let was = crate::lines::differ(before.clk, s.polarity);
+    let is = crate::lines::differ(seen.clk, s.polarity);
+    was & !is
+}
+
+fn capture_edge(s: Settings, before: Pins, seen: Pins) -> bool
+    ensures { λ r. ⌜ r ≡ captureEdge s before seen ⌝ }
+{
+    let phase = s.phase;
+    if phase {
+        to_idle(s, before, seen)
+    } else {
+        to_active(s, before, seen)
+    }
+}
+
+fn drive_edge(s: Settings, before: Pins, seen: Pins) -> bool
+    ensures { λ r. ⌜ r ≡ driveEdge s before seen ⌝ }
+{
+    let phase = s.phase;
+    if phase {
+        to_active(s, before, seen)
+    } else {
+        to_idle(s, before, seen)
+    }
+}
+
+// In a word: capture or drive. Out of one: with SPH 1 the next word is taken at an edge to active.
+fn motorola_clock(
+    s: Settings,
+    e: Engine,
+    captures: bool,
+    drives: bool,
+    next: u16,
+    bit: bool,
+) -> Step
+    ensures { λ r. ⌜ r ≡ motorolaClock s e captures drives next bit ⌝ }
+{
+    let capturing = e.frame & captures;
+    let driving = e.frame & drives;
+    let taking = drives & s.phase;
+    if capturing {
+        return crate::engine::capture_step(s.bits, bit, e);
+    }
+    if driving {
+        let shift = e.shift;
+        let after = crate::engine::driven(s.bits as u16, shift.captured as u16, shift);
+        return crate::engine::still(crate::engine::with_shift(e, after));
+    }
+    if taking {
+        return crate::engine::begun(e, crate::engine::started(s.bits as u16, next));
+    }
+    crate::engine::still(e)
+}
+
+fn after_taking(took: bool, r: Step) -> Step
+    ensures { λ n. ⌜ n ≡ afterTaking took r ⌝ }
+{
+    let mut next = r;
+    next.takes = took | r.takes;
+    next
+}
+
+// The clock counts while selected.
+fn motorola_edges(s: Settings, r: Step, before: Pins, seen: Pins, next: u16) -> Step
+    ensures { λ n. ⌜ n ≡ motorolaEdges s r before seen next ⌝ }
+{
+    let e = r.engine;
+    let selected = e.selected;
+    if selected {
+        let captures = capture_edge(s, before, seen);
+        let drives = drive_edge(s, before, seen);
+        let bit = crate::master::data_bit(s, e, seen.rxd);
+        return after_taking(r.takes, motorola_clock(s, e, captures, drives, next, bit));
+    }
+    r
+}
+
+// FSS HIGH deselects and drops a part word; FSS comes before CLK.
+fn motorola_slave(s: Settings, e: Engine, before: Pins, seen: Pins, next: u16) -> Step
+    ensures { λ r. ⌜ r ≡ motorolaSlave s e before seen next ⌝ }
+{
+    let high = seen.fss;
+    if high {
+        return crate::engine::still(crate::engine::cleared());
+    }
+    motorola_edges(
+        s,
+        motorola_select(s, e, before.fss, next),
+        before,
+        seen,
+        next,
+    )
+}
+
+fn with_mark(e: Engine, mark: bool) -> Engine
+    ensures { λ r. ⌜ r ≡ withMark e mark ⌝ }
+{
+    let mut next = e;
+    next.mark = mark;
+    next
+}
+
+// A falling edge captures in a word; with FSS HIGH it marks a start, and before the last bit drops the part word.
+fn ti_falls(s: Settings, e: Engine, fss: bool, bit: bool) -> Step
+    ensures { λ r. ⌜ r ≡ tiFalls s e fss bit ⌝ }
+{
+    let frame = e.frame;
+    let early = fss & ((e.shift.captured as u16 + 1) < (s.bits as u16));
+    let marked = with_mark(e, e.mark | fss);
+    if frame {
+        if early {
+            let dropped = crate::engine::with_frame(e, false, crate::engine::clear_shift());
+            return crate::engine::still(with_mark(dropped, true));
+        }
+        return crate::engine::capture_step(s.bits, bit, marked);
+    }
+    crate::engine::still(marked)
+}
+
+// A rising edge after a mark takes the next word; in a word it drives the next bit.
+fn ti_rises(s: Settings, e: Engine, next: u16) -> Step
+    ensures { λ r. ⌜ r ≡ tiRises s e next ⌝ }
+{
+    let mark = e.mark;
+    let frame = e.frame;
+    if mark {
+        let started = crate::engine::started(s.bits as u16, next);
+        return crate::engine::begun(with_mark(e, false), started);
+    }
+    if frame {
+        let shift = e.shift;
+        let after = crate::engine::driven(s.bits as u16, shift.captured as u16, shift);
+        return crate::engine::still(crate::engine::with_shift(e, after));
+    }
+    crate::engine::still(e)
+}
+
+fn ti_slave(s: Settings, e: Engine, before: Pins, seen: Pins, next: u16) -> Step
+    ensures { λ r. ⌜ r ≡ tiSlave s e before seen next ⌝ }
+{
+    let falls = before.clk & !seen.clk;
+    let rises = !before.clk & seen.clk;
+    if falls {
+        let bit = crate::master::data_bit(s, e, seen.rxd);
+        return ti_falls(s, e, seen.fss, bit);
+    }
+    if rises {
+        return ti_rises(s, e, next);
+    }
+    crate::engine::still(e)
+}
+
+// The engine after the cycle's edges, as its lines show it.
+pub fn slave_step(s: Settings, e: Engine, before: Pins, seen: Pins, next: u16) -> Step
+    ensures { λ r. ⌜ r ≡ slaveStep s e before seen next ⌝ }
+{
+    let f = s.format;
+    match f {
+        Format::Motorola => motorola_slave(s, e, before, seen, next),
+        Format::Ti => ti_slave(s, e, before, seen, next),
+        Format::Microwire => crate::engine::still(crate::engine::cleared()),
+        Format::Reserved => crate::engine::still(crate::engine::cleared()),
+    }
+}
+
+fn ended_on(f: Format, e: Engine) -> Engine
+    ensures { λ r. ⌜ r ≡ endedOn f e ⌝ }
+{
+    match f {
+        Format::Motorola => crate::engine::with_frame(e, false, e.shift),
+        Format::Ti => crate::engine::with_frame(e, false, crate::engine::clear_shift()),
+        Format::Microwire => crate::engine::with_frame(e, false, crate::engine::clear_shift()),
+        Format::Reserved => crate::engine::with_frame(e, false, crate::engine::clear_shift()),
+    }
+}
+
+// The end of a slave's cycle: with the last capture the frame is over.
+pub fn slave_end(s: Settings, e: Engine) -> Engine
+    ensures { λ r. ⌜ r ≡ slaveEnd s e ⌝ }
+{
+    let over = e.frame & (s.bits <= e.shift.captured);
+    if over {
+        let f = s.format;
+        return ended_on(f, e);
+    }
+    e
+}
