@@ -7,3 +7,4 @@ pub mod Settings
 pub mod Flags
 pub mod Access
 pub mod Transfer
+pub mod Sound

@@ -6,3 +6,4 @@ pub mod Master
 pub mod Slave
 pub mod Cycle
 pub mod Access
+pub mod Sound

@@ -1,0 +1,34 @@
+-- A sound device: the whole soundness list. Shift words, held level, pins and last lines are free.
+use Prim.Native.Nat.{ℕ}
+use mathlib.Core.Bool.{Bool, not, _&&_}
+use lib.Dec.{ltb, leb, eqb}
+use Rattle.registers.specs.Choose.{pick}
+use Rattle.registers.specs.Settings.{settingsOf}
+use Rattle.registers.specs.Sound.{soundRegisters, registersFit}
+use Rattle.registers.specs.declared.settings.Settings.{Settings}
+use Rattle.serial.specs.Slots.{lastSlot}
+use Rattle.serial.specs.Cycle.{DeviceModel}
+use Rattle.serial.specs.declared.engine.Engine.{Engine}
+
+-- With SSE clear: no frame, no selection, no TI mark; slot, cycle and bit counts 0.
+unfoldable pub stoppedSound : Engine → Bool
+stoppedSound e =
+    ((not (e .frame) && not (e .selected)) && not (e .mark))
+    && ((eqb (e .slot .0) 0 && eqb (e .gone .0) 0) && eqb (e .shift .captured) 0)
+
+-- With SSE set: slot number at most the format's last, cycles gone in the slot below h, captured bits at most b.
+unfoldable pub runningSound : Settings → Engine → Bool
+runningSound s e = (leb (e .slot .0) (lastSlot s) && ltb (e .gone .0) (s .half)) && leb (e .shift .captured) (s .bits)
+
+unfoldable pub engineSound : Settings → Engine → Bool
+engineSound s e = pick (s .enabled) (runningSound s e) (stoppedSound e)
+
+unfoldable pub soundDevice : DeviceModel → Bool
+soundDevice d = soundRegisters (d .registers) && engineSound (settingsOf (d .registers .control)) (d .engine)
+
+-- What the bytes of a record can hold: true of every device that the code makes.
+unfoldable pub deviceFits : DeviceModel → Bool
+deviceFits d =
+    registersFit (d .registers)
+    && (((ltb (d .engine .slot .0) 0x100 && ltb (d .engine .gone .0) 0x10000) && ltb (d .engine .shift .captured) 0x100)
+    && (ltb (d .engine .shift .sending) 0x10000 && ltb (d .engine .shift .receiving) 0x10000))
