@@ -1,2 +1,1 @@
-mod Picks
 mod Words
