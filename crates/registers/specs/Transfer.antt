@@ -4,7 +4,8 @@ use mathlib.Core.Path.{_≡_}
 use mathlib.Core.Bool.{Bool, true, not, _&&_, _||_}
 use lib.ListN.{length, getD}
 use lib.Dec.{ltb, leb, eqb}
-pub use Rattle.queue.specs.Fifo.{added, rest}
+unfoldable pub use Rattle.queue.specs.Fifo.{added}
+pub use Rattle.queue.specs.Fifo.{rest}
 use Rattle.registers.specs.Choose.{pick}
 use Rattle.registers.specs.Time.{cycles, slots, cyclesOf}
 use Rattle.registers.specs.Model.{Model, withTimeout, withRor, withTx, withRx}
