@@ -7,3 +7,4 @@ pub mod Slave
 pub mod Cycle
 pub mod Access
 pub mod Sound
+pub mod Recordings
