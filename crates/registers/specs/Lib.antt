@@ -8,3 +8,4 @@ pub mod Flags
 pub mod Access
 pub mod Transfer
 pub mod Sound
+pub mod Fields

@@ -4,9 +4,11 @@ ghost use mathlib.Core.Path.{_≡_};
 ghost use Rattle.registers.specs.Model.{modelOf, resetModel};
 
 pub mod access;
+pub mod fields;
 pub mod flags;
 pub mod offsets;
 pub mod settings;
+pub mod sound;
 pub mod time;
 pub mod transfer;
 

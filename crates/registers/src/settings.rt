@@ -59,7 +59,7 @@ pub(crate) fn half_of(c: Control) -> u16
     ((c.cpsr / 2) as u16) * (1 + c.cr0 / 256 % 256)
 }
 
-fn enabled_of(c: Control) -> bool
+pub(crate) fn enabled_of(c: Control) -> bool
     ensures { λ r. ⌜ r ≡ enabledOf c ⌝ }
 {
     c.cr1 / 2 % 2 == 1

@@ -59,7 +59,7 @@ fn idles(r: Registers, frame: bool) -> bool
 }
 
 // The cycles after which RT is set.
-fn limit(r: Registers) -> Cycles
+pub(crate) fn limit(r: Registers) -> Cycles
     ensures { λ n. ⌜ LimitOf (modelOf r) n ⌝ }
 {
     let c = r.control;

@@ -7,4 +7,5 @@ pub mod Slave
 pub mod Cycle
 pub mod Access
 pub mod Sound
+pub mod Record
 pub mod Recordings

@@ -9,8 +9,10 @@ pub mod cycle;
 pub mod engine;
 pub mod lines;
 pub mod master;
+pub mod record;
 pub mod slave;
 pub mod slots;
+pub mod sound;
 
 use crate::engine::Engine;
 use crate::lines::Lines;

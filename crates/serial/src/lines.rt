@@ -32,7 +32,7 @@ pub fn pins_of(byte: u8) -> Pins
     }
 }
 
-fn value_of(flag: bool, weight: u8) -> u8
+pub(crate) fn value_of(flag: bool, weight: u8) -> u8
     ensures { λ r. ⌜ ValueOf flag weight r ⌝ }
 {
     if flag { weight } else { 0 }

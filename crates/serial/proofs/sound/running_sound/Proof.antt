@@ -1,0 +1,17 @@
+use Rattle.serial.specs.Sound.{runningSound}
+use borrow.Author.Needs.{needs}
+use Rattle.serial.proofs.sound.running_sound.Statement.{statement}
+use Rattle.serial.proofs.sound.running_sound.Tie as tie
+
+last-slot-requires : tie.Need-last-slot-requires
+last-slot-requires c κs = search needs
+
+cast-result : tie.Need-cast-result
+cast-result c = search needs
+
+returns : tie.Need-returns
+unfolding runningSound
+returns c = rw (c .before .before .before .before .before .last-slot .ensures)
+
+pub running-sound-spec : {M : Type 1} → statement M
+running-sound-spec = tie.close (tie.spec last-slot-requires cast-result returns)

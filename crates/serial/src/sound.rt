@@ -1,0 +1,46 @@
+// Whether a device is sound.
+ghost use mathlib.Core.Path.{_≡_};
+ghost use Rattle.serial.specs.Cycle.{deviceOf};
+ghost use Rattle.serial.specs.Sound.{stoppedSound, runningSound, engineSound, soundDevice};
+use crate::Device;
+use crate::engine::Engine;
+use registers::settings::Settings;
+
+// With SSE clear: no frame, no selection, no TI mark; slot, cycle and bit counts 0.
+fn stopped_sound(e: Engine) -> bool
+    ensures { λ s. ⌜ s ≡ stoppedSound e ⌝ }
+{
+    ((!e.frame & !e.selected) & !e.mark)
+        & (((e.slot.0 == 0) & (e.gone.0 == 0)) & (e.shift.captured == 0))
+}
+
+// With SSE set: slot number at most the last, cycles gone below h, captured bits at most b.
+fn running_sound(s: Settings, e: Engine) -> bool
+    ensures { λ r. ⌜ r ≡ runningSound s e ⌝ }
+{
+    let last = crate::slots::last_slot(s);
+    ((e.slot.0 <= last) & (e.gone.0 < s.half as u32)) & (e.shift.captured <= s.bits)
+}
+
+fn engine_sound(s: Settings, e: Engine) -> bool
+    ensures { λ r. ⌜ r ≡ engineSound s e ⌝ }
+{
+    let on = s.enabled;
+    if on {
+        running_sound(s, e)
+    } else {
+        stopped_sound(e)
+    }
+}
+
+// Whether the register file and the engine are sound, the engine by the settings.
+pub fn sound_device(d: Device) -> bool
+    ensures { λ r. ⌜ r ≡ soundDevice (deviceOf d) ⌝ }
+{
+    let file = d.registers;
+    let e = d.engine;
+    let s = registers::settings::settings_of(file);
+    let kept = registers::sound::sound_registers(file);
+    let runs = engine_sound(s, e);
+    kept & runs
+}
