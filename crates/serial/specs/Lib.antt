@@ -9,3 +9,5 @@ pub mod Access
 pub mod Sound
 pub mod Record
 pub mod Recordings
+pub mod Pair
+pub mod Demand3

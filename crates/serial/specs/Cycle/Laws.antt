@@ -35,7 +35,7 @@ pub step-stopped : (d : DeviceModel) (pins : Pins) → enabledOf (d .registers .
 unfolding deviceStep stepOf settingsOf
 step-stopped d pins k = pick-no _ _ k
 
-end-cleared : (s : Settings) → endOf s cleared ≡ cleared
+pub end-cleared : (s : Settings) → endOf s cleared ≡ cleared
 unfolding endOf slaveEnd masterEnd resting
 end-cleared s = pick-both (λ (e : Engine). e ≡ cleared) (s .slave) _ _ (λ _. refl) (λ _. refl)
 

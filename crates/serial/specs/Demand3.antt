@@ -1,0 +1,179 @@
+-- Demand 3, its first part, as a statement: what is compared, from which starts, over which lists of steps. No proof stands here.
+use Prim.Native.Nat.{ℕ, zero, suc, _+_, _*_, _%_, _^_, _≤_, _<_}
+use mathlib.Core.Path.{_≡_}
+use mathlib.Core.Bool.{Bool, true, false}
+use mathlib.Core.Logic.{_⊎_}
+use mathlib.Core.List.{List, [], _∷_, _++_, map}
+use lib.Dec.{ltb}
+use lib.ListN.{length, take, replicate}
+use Rattle.registers.specs.Flags.{busyOf}
+use Rattle.registers.specs.Settings.{settingsOf, permittedOf}
+use Rattle.registers.specs.declared.Control.{Control}
+use Rattle.registers.specs.declared.settings.Format.{Format}
+use Rattle.registers.specs.declared.settings.Format.the-variants.{Motorola, Ti, Microwire, Reserved}
+use Rattle.registers.specs.declared.settings.Settings.{Settings}
+use Rattle.serial.specs.Cycle.{DeviceModel, completedOf}
+use Rattle.serial.specs.Access.{readDevice, writeDevice}
+use Rattle.serial.specs.Sound.{soundDevice}
+use Rattle.serial.specs.Pair.{wire, PairModel, pairCycle}
+
+-- Steps ----------------------------------------------------------------------------------------------------------------
+
+-- The master is the first device, the slave the second.
+pub data Which : Type 0 where
+  master : Which
+  slave : Which
+
+-- A pair cycle, or an access to either device, refused ones included.
+pub data Step : Type 0 where
+  cycle : Step
+  read : Which → ℕ → Step
+  write : Which → ℕ → ℕ → Step
+
+-- Each step starts from what the last one left.
+abbrev pub play : Step → PairModel → PairModel
+play cycle p = pairCycle p
+play (read master o) p = record { first = readDevice (p .first) o; second = p .second }
+play (read slave o) p = record { first = p .first; second = readDevice (p .second) o }
+play (write master o v) p = record { first = writeDevice (p .first) o v; second = p .second }
+play (write slave o v) p = record { first = p .first; second = writeDevice (p .second) o v }
+
+abbrev pub plays : List Step → PairModel → PairModel
+plays [] p = p
+plays (x ∷ xs) p = plays xs (play x p)
+
+-- The pair cycles among the steps.
+abbrev pub cyclesIn : List Step → ℕ
+cyclesIn [] = 0
+cyclesIn (cycle ∷ xs) = suc (cyclesIn xs)
+cyclesIn (read d o ∷ xs) = cyclesIn xs
+cyclesIn (write d o v ∷ xs) = cyclesIn xs
+
+-- CR0, CR1 and CPSR of a device.
+abbrev pub controlOf : Which → PairModel → Control
+controlOf master p = p .first .registers .control
+controlOf slave p = p .second .registers .control
+
+-- CR0, CR1 and CPSR of both stay as they are through the steps.
+abbrev pub Stays : List Step → PairModel → Type 0
+Stays [] p = Unit {0}
+Stays (x ∷ xs) p = (controlOf master (play x p) ≡ controlOf master p) × (controlOf slave (play x p) ≡ controlOf slave p) × Stays xs (play x p)
+
+-- The CR1 write that changes only SSE, of a device that is off.
+abbrev pub enables : Which → PairModel → Step
+enables d p = write d 0x04 (controlOf d p .cr1 + 2)
+
+-- The start ------------------------------------------------------------------------------------------------------------
+
+-- Any two sound devices, set up and off.
+pub record Start (p : PairModel) : Type 0 where
+  pub sound-master : soundDevice (p .first) ≡ true
+  pub sound-slave : soundDevice (p .second) ≡ true
+  pub permitted-master : permittedOf (controlOf master p .cr0) ≡ true
+  pub permitted-slave : permittedOf (controlOf slave p .cr0) ≡ true
+  pub divided-master : controlOf master p .cpsr ≡ 0 → ⊥
+  pub divided-slave : controlOf slave p .cpsr ≡ 0 → ⊥
+  -- both Motorola or both TI, same size, polarity and phase
+  pub serial : (settingsOf (controlOf master p) .format ≡ Motorola) ⊎ (settingsOf (controlOf master p) .format ≡ Ti)
+  pub format : settingsOf (controlOf slave p) .format ≡ settingsOf (controlOf master p) .format
+  pub size : settingsOf (controlOf slave p) .bits ≡ settingsOf (controlOf master p) .bits
+  pub polarity : settingsOf (controlOf slave p) .polarity ≡ settingsOf (controlOf master p) .polarity
+  pub phase : settingsOf (controlOf slave p) .phase ≡ settingsOf (controlOf master p) .phase
+  -- the master's bit at least 12 cycles long
+  pub half : 6 ≤ settingsOf (controlOf master p) .half
+  pub is-master : settingsOf (controlOf master p) .slave ≡ false
+  pub is-slave : settingsOf (controlOf slave p) .slave ≡ true
+  -- loopback off, slave output on
+  pub straight-master : settingsOf (controlOf master p) .loopback ≡ false
+  pub straight-slave : settingsOf (controlOf slave p) .loopback ≡ false
+  pub output : settingsOf (controlOf slave p) .silent ≡ false
+  -- off, overrun flags clear
+  pub off-master : settingsOf (controlOf master p) .enabled ≡ false
+  pub off-slave : settingsOf (controlOf slave p) .enabled ≡ false
+  pub clear-master : p .first .registers .ror ≡ false
+  pub clear-slave : p .second .registers .ror ≡ false
+
+-- What is compared -----------------------------------------------------------------------------------------------------
+
+abbrev pub deviceOf : Which → PairModel → DeviceModel
+deviceOf master p = p .first
+deviceOf slave p = p .second
+
+-- BSY of a device.
+abbrev pub busy : Which → PairModel → Bool
+busy d p = busyOf (deviceOf d p .registers) (deviceOf d p .engine .frame)
+
+-- The words that a device completes in a pair cycle, and in n of them.
+abbrev pub completed : Which → PairModel → List ℕ
+completed master p = completedOf (p .first) (wire (p .second .lines))
+completed slave p = completedOf (p .second) (wire (p .first .lines))
+
+abbrev pub later : ℕ → PairModel → PairModel
+later zero p = p
+later (suc n) p = later n (pairCycle p)
+
+abbrev pub received : Which → ℕ → PairModel → List ℕ
+received d zero p = []
+received d (suc n) p = completed d p ++ received d n (pairCycle p)
+
+-- A load is the transmit queue at the master's enabling, oldest word first; held are the words in the receive queue then.
+abbrev pub load : Which → PairModel → List ℕ
+load d g = deviceOf d g .registers .tx
+
+abbrev pub held : Which → PairModel → List ℕ
+held d g = deviceOf d g .registers .rx
+
+-- Cutting keeps the low b bits.
+abbrev pub cutTo : ℕ → ℕ → ℕ
+cutTo b w = w % 2 ^ b
+
+-- In the slave the words of the master's load; in the master as many of the slave's, filled up with zeros; all cut.
+abbrev pub due : ℕ → Which → PairModel → List ℕ
+due b master g = map (cutTo b) (take (length (load master g)) (load slave g ++ replicate (length (load master g)) 0))
+due b slave g = map (cutTo b) (load master g)
+
+-- Slots for n words, idle ones included.
+abbrev pub slotTotal : Format → Bool → ℕ → ℕ → ℕ
+slotTotal f phase b zero = 0
+slotTotal Motorola false b (suc n) = suc n * (2 * b + 4)
+slotTotal Motorola true b (suc n) = 2 * b * suc n + 4
+slotTotal Ti phase b (suc n) = 2 * b * suc n + 2
+slotTotal Microwire phase b (suc n) = suc n * (2 * b + 18) + 3
+slotTotal Reserved phase b (suc n) = 0
+
+-- The cycles from the master's enabling to its first BSY 0.
+abbrev pub busyFor : Format → Bool → ℕ → ℕ → ℕ → ℕ
+busyFor f phase b h zero = 0
+busyFor Motorola false b h (suc n) = (n * (2 * b + 4) + (2 * b + 2)) * h + 1
+busyFor Motorola true b h (suc n) = (2 * b * suc n + 2) * h + 1
+busyFor Ti phase b h (suc n) = (2 * b * suc n + 2) * h
+busyFor Microwire phase b h (suc n) = (suc n * (2 * b + 18) + 1) * h + 1
+busyFor Reserved phase b h (suc n) = 0
+
+-- What a device has received n cycles after the enabling: exactly the words due; its receive queue the first eight of those held and those received; ROR exactly if there were more.
+pub record Received (b n : ℕ) (d : Which) (g : PairModel) : Type 0 where
+  pub words : received d n g ≡ due b d g
+  pub queue : held d (later n g) ≡ take 8 (held d g ++ due b d g)
+  pub overrun : deviceOf d (later n g) .registers .ror ≡ ltb 8 (length (held d g ++ due b d g))
+
+-- Of the state g at the master's enabling: the first BSY 0, at most the slot total times h cycles later, and what both have received from then on.
+pub record Exchanged (g : PairModel) : Type 0 where
+  pub at : ℕ
+  pub figure : at ≡ busyFor (settingsOf (controlOf master g) .format) (settingsOf (controlOf master g) .phase) (settingsOf (controlOf master g) .bits) (settingsOf (controlOf master g) .half) (length (load master g))
+  pub bound : at ≤ slotTotal (settingsOf (controlOf master g) .format) (settingsOf (controlOf master g) .phase) (settingsOf (controlOf master g) .bits) (length (load master g)) * settingsOf (controlOf master g) .half
+  pub busy-before : (i : ℕ) → i < at → busy master (later i g) ≡ true
+  pub free : busy master (later at g) ≡ false
+  pub master-received : (j : ℕ) → Received (settingsOf (controlOf master g) .bits) (at + j) master g
+  pub slave-received : (j : ℕ) → Received (settingsOf (controlOf master g) .bits) (at + j) slave g
+
+-- The states on the way: four or more cycles and any accesses; the slave's enabling; cycles and accesses; the master's enabling, the last access.
+abbrev pub slaveOn : List Step → PairModel → PairModel
+slaveOn pre p = play (enables slave (plays pre p)) (plays pre p)
+
+abbrev pub masterOn : List Step → List Step → PairModel → PairModel
+masterOn pre mid p = play (enables master (plays mid (slaveOn pre p))) (plays mid (slaveOn pre p))
+
+-- The claim.
+abbrev pub Demand3 : Type 0
+Demand3 =
+    (p : PairModel) (pre mid : List Step) → Start p → 4 ≤ cyclesIn pre → Stays pre p → Stays mid (slaveOn pre p) → Exchanged (masterOn pre mid p)

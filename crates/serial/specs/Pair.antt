@@ -1,0 +1,36 @@
+-- Two devices wired together.
+use Prim.Native.Nat.{ℕ}
+use mathlib.Core.Bool.{Bool, not, _&&_}
+use Rattle.serial.specs.Cycle.{DeviceModel, cycleOf}
+use Rattle.serial.specs.declared.lines.Lines.{Lines}
+use Rattle.serial.specs.declared.lines.Pins.{Pins}
+pub mod Trace
+pub mod Top
+pub mod Core
+pub mod Settle
+pub mod Quiet
+pub mod Events
+pub mod Moves
+pub mod Motorola
+pub mod Ends
+pub mod Phase0
+pub mod Phase1
+pub mod Ti
+pub mod Finish
+pub mod Project
+pub mod Lead
+pub mod Enable
+pub mod Claim
+
+-- What the partner's pins read: CLK and FSS as driven, TXD where it is driven; a released line reads LOW.
+unfoldable pub wire : Lines → Pins
+wire l = record { clk = l .clk; fss = l .fss; rxd = l .txd && not (l .released) }
+
+pub record PairModel : Type 0 where
+  pub first : DeviceModel
+  pub second : DeviceModel
+
+-- Each input is the other's output in the cycle before.
+unfoldable pub pairCycle : PairModel → PairModel
+pairCycle p =
+    record { first = cycleOf (p .first) (wire (p .second .lines)); second = cycleOf (p .second) (wire (p .first .lines)) }
