@@ -1,2 +1,6 @@
 mod Words
 mod Bytes
+mod Status
+mod Runs
+mod Answers
+mod Wiring

@@ -15,7 +15,7 @@ use Rattle.registers.specs.declared.settings.Settings.{Settings}
 use Rattle.serial.specs.Cycle.{DeviceModel, completedOf}
 use Rattle.serial.specs.Access.{readDevice, writeDevice}
 use Rattle.serial.specs.Sound.{soundDevice}
-use Rattle.serial.specs.Pair.{wire, PairModel, pairCycle}
+use Rattle.serial.specs.Pair.{wire, PairModel, pairCycle, later}
 
 -- Steps ----------------------------------------------------------------------------------------------------------------
 
@@ -107,10 +107,6 @@ busy d p = busyOf (deviceOf d p .registers) (deviceOf d p .engine .frame)
 abbrev pub completed : Which → PairModel → List ℕ
 completed master p = completedOf (p .first) (wire (p .second .lines))
 completed slave p = completedOf (p .second) (wire (p .first .lines))
-
-abbrev pub later : ℕ → PairModel → PairModel
-later zero p = p
-later (suc n) p = later n (pairCycle p)
 
 abbrev pub received : Which → ℕ → PairModel → List ℕ
 received d zero p = []

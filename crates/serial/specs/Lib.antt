@@ -8,6 +8,9 @@ pub mod Cycle
 pub mod Access
 pub mod Sound
 pub mod Record
+pub mod Run
+pub mod Calls
 pub mod Recordings
 pub mod Pair
 pub mod Demand3
+pub mod Alone

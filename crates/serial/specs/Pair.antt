@@ -1,7 +1,8 @@
 -- Two devices wired together.
-use Prim.Native.Nat.{ℕ}
+use Prim.Native.Nat.{ℕ, zero, suc}
 use mathlib.Core.Bool.{Bool, not, _&&_}
-use Rattle.serial.specs.Cycle.{DeviceModel, cycleOf}
+use Rattle.serial.specs.Cycle.{DeviceModel, deviceOf, cycleOf}
+use Rattle.serial.specs.declared.pair.Wired.{Wired}
 use Rattle.serial.specs.declared.lines.Lines.{Lines}
 use Rattle.serial.specs.declared.lines.Pins.{Pins}
 pub mod Trace
@@ -34,3 +35,12 @@ pub record PairModel : Type 0 where
 unfoldable pub pairCycle : PairModel → PairModel
 pairCycle p =
     record { first = cycleOf (p .first) (wire (p .second .lines)); second = cycleOf (p .second) (wire (p .first .lines)) }
+
+-- After so many cycles.
+abbrev pub later : ℕ → PairModel → PairModel
+later zero p = p
+later (suc n) p = later n (pairCycle p)
+
+-- Two devices of the code as the definitions see them.
+unfoldable pub pairOf : Wired → PairModel
+pairOf w = record { first = deviceOf (w .first); second = deviceOf (w .second) }

@@ -24,7 +24,7 @@ use Rattle.serial.specs.Cycle.{DeviceModel, deviceStep, stepOf}
 use Rattle.serial.specs.Cycle.Laws.{control-cycle, step-stopped}
 use Rattle.serial.specs.Access.{writeDevice}
 use Rattle.serial.specs.Sound.Laws.{sound-registers}
-use Rattle.serial.specs.Pair.{wire, PairModel, pairCycle}
+use Rattle.serial.specs.Pair.{wire, PairModel, pairCycle, later}
 use Rattle.serial.specs.Pair.Trace.{iterate}
 use Rattle.serial.specs.Pair.Top.{cut}
 use Rattle.serial.specs.Pair.Core as Core
@@ -41,7 +41,7 @@ use Rattle.serial.specs.Pair.Project.{Serial, given, turns, turnPins, tu
 use Rattle.serial.specs.Pair.Project.Serial.{motorola, ti}
 use Rattle.serial.specs.Pair.Lead.{Lead, lead-steps, lead-write₁, lead-write₂, engine-on}
 use Rattle.serial.specs.Pair.Enable.{switchedOn, settings-on, control-on}
-use Rattle.serial.specs.Demand3.{Which, Step, play, plays, cyclesIn, controlOf, Stays, enables, Start, busy, completed, later, received, load, held, due, slotTotal, busyFor, Received, Exchanged, slaveOn, masterOn, Demand3}
+use Rattle.serial.specs.Demand3.{Which, Step, play, plays, cyclesIn, controlOf, Stays, enables, Start, busy, completed, received, load, held, due, slotTotal, busyFor, Received, Exchanged, slaveOn, masterOn, Demand3}
 use Rattle.serial.specs.Demand3.Which.{master, slave}
 use Rattle.serial.specs.declared.engine.Engine.{Engine}
 use Rattle.serial.specs.declared.lines.Lines.{Lines}

@@ -1,0 +1,147 @@
+//! Compares the second program with the proved one, call by call.
+
+use compare::bench::{Bench, Options};
+use compare::cases::{self, Plan};
+use compare::command::Command;
+use compare::fault::Faulty;
+use compare::model::{Model, Second};
+use compare::script::answer;
+use compare::session::Session;
+use std::fs::File;
+use std::io::{self, BufRead};
+use std::process::ExitCode;
+use std::time::Duration;
+
+const USAGE: &str = "usage: compare [--self | --fault N] [--pairs] [--odd]
+               [--rounds N] [--least N] [--seconds N] [--seed HEX] [--trace FILE]
+       compare [--self | --fault N] --replay < script";
+
+const SEED: u64 = 0x0022_5EED;
+
+struct Arguments {
+    fault: Option<u32>,
+    itself: bool,
+    replay: bool,
+    trace: Option<String>,
+    /// Calls that must have been compared.
+    least: u64,
+    options: Options,
+    plan: Plan,
+}
+
+fn parse(words: &[String]) -> Option<Arguments> {
+    let plan = Plan { seed: SEED, rounds: 400, limit: None, pairs: false };
+    let options = Options::default();
+    let mut arguments = Arguments {
+        fault: None,
+        itself: false,
+        replay: false,
+        trace: None,
+        least: 0,
+        options,
+        plan,
+    };
+    let mut words = words.iter();
+    while let Some(word) = words.next() {
+        match word.as_str() {
+            "--self" => arguments.itself = true,
+            "--replay" => arguments.replay = true,
+            "--pairs" => arguments.plan.pairs = true,
+            "--odd" => arguments.options.odd = true,
+            "--trace" => arguments.trace = Some(words.next()?.clone()),
+            "--fault" => arguments.fault = Some(words.next()?.parse().ok()?),
+            "--least" => arguments.least = words.next()?.parse().ok()?,
+            "--rounds" => arguments.plan.rounds = words.next()?.parse().ok()?,
+            "--seconds" => {
+                let seconds = words.next()?.parse().ok()?;
+                arguments.plan.limit = Some(Duration::from_secs(seconds));
+            }
+            "--seed" => arguments.plan.seed = u64::from_str_radix(words.next()?, 16).ok()?,
+            _ => return None,
+        }
+    }
+    Some(arguments)
+}
+
+#[cfg(feature = "library")]
+fn library() -> Option<Box<dyn Model>> {
+    Some(Box::new(compare::library::Library))
+}
+
+#[cfg(not(feature = "library"))]
+fn library() -> Option<Box<dyn Model>> {
+    None
+}
+
+fn other_model(arguments: &Arguments) -> Option<Box<dyn Model>> {
+    match arguments.fault {
+        Some(number) => Some(Box::new(Faulty(number))),
+        None if arguments.itself => Some(Box::new(Second)),
+        None => library(),
+    }
+}
+
+/// Runs a script on both and shows where the answers or records part.
+fn replay(other: &dyn Model) -> ExitCode {
+    let (mut left, mut right) = (Session::new(&Second), Session::new(other));
+    let mut differences = 0;
+    for line in io::stdin().lock().lines().map_while(Result::ok) {
+        let Some(command) = Command::parse(&line) else {
+            continue;
+        };
+        let answers = [answer(&mut left, &command), answer(&mut right, &command)];
+        if answers[0] != answers[1] || left.records != right.records {
+            differences += 1;
+            println!("{line}\n  second: {}\n  other:  {}", answers[0], answers[1]);
+            for (device, record) in left.records.iter().enumerate() {
+                show_bytes(device, record, &right.records[device]);
+            }
+        }
+    }
+    println!("replay: {differences} commands differ");
+    ExitCode::from(u8::from(differences > 0))
+}
+
+fn show_bytes(device: usize, left: &[u8], right: &[u8]) {
+    for (at, (a, b)) in left.iter().zip(right).enumerate() {
+        if a != b {
+            println!("  record {device} byte {at}: second {a:02x}, other {b:02x}");
+        }
+    }
+}
+
+fn main() -> ExitCode {
+    let words: Vec<String> = std::env::args().skip(1).collect();
+    let Some(arguments) = parse(&words) else {
+        eprintln!("{USAGE}");
+        return ExitCode::from(2);
+    };
+    let Some(other) = other_model(&arguments) else {
+        eprintln!("compare: built without the feature `library`; only --self and --fault work");
+        return ExitCode::from(2);
+    };
+    if arguments.replay {
+        return replay(other.as_ref());
+    }
+    let plan = arguments.plan;
+    println!("compare: seed {:x}, {} rounds", plan.seed, plan.rounds);
+    let mut bench = Bench::new(&Second, other.as_ref(), arguments.options);
+    if let Some(path) = &arguments.trace {
+        bench.trace = File::create(path).ok();
+    }
+    match cases::run(&mut bench, &plan) {
+        Ok(_) if bench.counts.calls() < arguments.least => {
+            println!("compare: fewer than {} calls: {}", arguments.least, bench.counts);
+            ExitCode::FAILURE
+        }
+        Ok(done) => {
+            println!("compare: {done} cases, {}, no difference", bench.counts);
+            ExitCode::SUCCESS
+        }
+        Err(difference) => {
+            print!("{}", difference.0);
+            println!("# compare: a difference after {}", bench.counts);
+            ExitCode::FAILURE
+        }
+    }
+}

@@ -1,0 +1,108 @@
+//! Records put together field by field, on both sides of each limit of soundness.
+
+use super::damage::probe;
+use super::settings::{permitted_cr0, speed};
+use crate::bench::{Bench, Step};
+use crate::command::Command;
+use crate::random::Random;
+use crate::record::{at, LENGTH};
+
+pub fn near_the_limits(bench: &mut Bench, random: &mut Random) -> Step<()> {
+    for _ in 0..150 {
+        let record = forge(random);
+        bench.load(0, &record);
+        bench.forget();
+        probe(bench, random)?;
+    }
+    Ok(())
+}
+
+/// Two forged records wired together.
+pub fn pair(bench: &mut Bench, random: &mut Random) -> Step<()> {
+    for _ in 0..150 {
+        for device in 0..2 {
+            let record = forge(random);
+            bench.load(device, &record);
+        }
+        bench.forget();
+        let cycles = random.pick(&[0, 1, 1, 2, 3, 12, 40]);
+        bench.step(Command::PairRun { cycles })?;
+    }
+    Ok(())
+}
+
+fn put(record: &mut [u8], place: usize, value: u32, bytes: usize) {
+    record[place..place + bytes].copy_from_slice(&value.to_le_bytes()[..bytes]);
+}
+
+/// Mostly within a limit, often at it, now and then just above.
+fn up_to(random: &mut Random, limit: u32) -> u32 {
+    match random.below(40) {
+        0 => limit + 1,
+        1..=12 => limit,
+        13..=20 => 0,
+        _ => random.below(u64::from(limit) + 1) as u32,
+    }
+}
+
+fn flag(random: &mut Random) -> u32 {
+    if random.percent(1) {
+        2
+    } else {
+        random.below(2) as u32
+    }
+}
+
+fn forge(random: &mut Random) -> [u8; LENGTH] {
+    let mut record = [0; LENGTH];
+    let (cpsr, scr) = speed(random);
+    let cr0 = if random.percent(3) { random.word() } else { permitted_cr0(random, scr) };
+    put(&mut record, at::CR0, cr0, 2);
+    let cr1 = random.below(16) as u32 | if random.percent(70) { 2 } else { 0 };
+    put(&mut record, at::CR1, cr1, 1);
+    put(&mut record, at::CPSR, if random.percent(2) { random.below(256) as u32 } else { cpsr }, 1);
+    put(&mut record, at::IMSC, up_to(random, 15), 1);
+    put(&mut record, at::DMACR, up_to(random, 3), 1);
+    for place in [at::ROR, at::RT, at::HELD] {
+        put(&mut record, place, flag(random), 1);
+    }
+    for place in at::PINS..at::PINS + 3 {
+        put(&mut record, place, random.below(8) as u32, 1);
+    }
+    put(&mut record, at::LINES, random.below(16) as u32, 1);
+    put(&mut record, at::SENDING, random.word(), 2);
+    put(&mut record, at::RECEIVING, random.word(), 2);
+    forge_engine(random, &mut record, cr1 & 2 != 0);
+    forge_queue(random, &mut record, at::TX_COUNT, at::TX);
+    forge_queue(random, &mut record, at::RX_COUNT, at::RX);
+    record
+}
+
+/// Frame, slot and counts; zero, or nearly so, in a disabled device.
+fn forge_engine(random: &mut Random, record: &mut [u8], enabled: bool) {
+    if !enabled && random.percent(90) {
+        return;
+    }
+    let h = u32::from(record[at::CPSR] / 2) * (1 + u32::from(record[at::CR0 + 1]));
+    let b = u32::from(record[at::CR0] & 15) + 1;
+    let last = 2 * b + [3, 1, 20, 3][usize::from(record[at::CR0] >> 4 & 3)];
+    for place in [at::FRAME, at::SELECTED, at::MARK] {
+        put(record, place, flag(random), 1);
+    }
+    put(record, at::RT_COUNT, up_to(random, (64 * h).saturating_sub(1)), 4);
+    put(record, at::CAPTURED, up_to(random, b), 1);
+    put(record, at::SLOT, up_to(random, last), 1);
+    put(record, at::GONE, up_to(random, h.saturating_sub(1)), 2);
+}
+
+fn forge_queue(random: &mut Random, record: &mut [u8], count_at: usize, words_at: usize) {
+    let count = random.below(9) as u32;
+    for i in 0..count as usize {
+        put(record, words_at + 2 * i, random.word(), 2);
+    }
+    match random.below(60) {
+        0 => put(record, count_at, 9, 1),
+        1 => put(record, count_at, count.saturating_sub(1), 1),
+        _ => put(record, count_at, count, 1),
+    }
+}

@@ -1,0 +1,81 @@
+//! The cases of the comparison. Each draws all it does from its own seed.
+
+mod accesses;
+mod buffers;
+mod damage;
+mod engine;
+mod forged;
+mod pairs;
+mod settings;
+mod slow;
+mod waves;
+
+use crate::bench::{Bench, Step};
+use crate::random::Random;
+use std::time::{Duration, Instant};
+
+#[derive(Clone, Copy)]
+pub struct Plan {
+    pub seed: u64,
+    pub rounds: u64,
+    /// No new case begins after this time.
+    pub limit: Option<Duration>,
+    pub pairs: bool,
+}
+
+type Case = fn(&mut Bench, &mut Random) -> Step<()>;
+
+/// Name, the case, and in which rounds it runs: each n-th.
+const CASES: [(&str, Case, u64); 11] = [
+    ("accesses", accesses::sequence, 1),
+    ("offsets", accesses::every_offset, 16),
+    ("master", engine::master, 1),
+    ("slave", engine::slave, 1),
+    ("timeout", engine::timeout, 1),
+    ("change of role", engine::change_of_role, 1),
+    ("buffers", buffers::wrong, 1),
+    ("bit flips", damage::every_bit, 4),
+    ("random bytes", damage::random_bytes, 4),
+    ("forged records", forged::near_the_limits, 1),
+    ("slow", slow::large_slots, 8),
+];
+
+const PAIR_CASES: [(&str, Case, u64); 3] = [
+    ("pair", pairs::pair, 1),
+    ("pair refusals", pairs::refusals, 4),
+    ("forged pair", forged::pair, 1),
+];
+
+/// One case by its name, from a seed; false if there is none.
+pub fn run_one(bench: &mut Bench, name: &str, seed: u64) -> Step<bool> {
+    for (known, case, _) in CASES.iter().chain(&PAIR_CASES) {
+        if *known == name {
+            bench.begin(format!("case {name}, seed {seed:x}"))?;
+            case(bench, &mut Random::new(seed))?;
+            return Ok(true);
+        }
+    }
+    Ok(false)
+}
+
+pub fn run(bench: &mut Bench, plan: &Plan) -> Step<u64> {
+    let start = Instant::now();
+    let in_time = || plan.limit.is_none_or(|limit| start.elapsed() < limit);
+    let mut done = 0;
+    for round in 0..plan.rounds {
+        let pair_cases: &[_] = if plan.pairs { &PAIR_CASES } else { &[] };
+        for (i, (name, case, every)) in CASES.iter().chain(pair_cases).enumerate() {
+            if round % every != 0 {
+                continue;
+            }
+            if !in_time() {
+                return Ok(done);
+            }
+            let seed = plan.seed.wrapping_add(round * 64 + i as u64);
+            bench.begin(format!("case {name}, round {round}, seed {seed:x}"))?;
+            case(bench, &mut Random::new(seed))?;
+            done += 1;
+        }
+    }
+    Ok(done)
+}

@@ -1,0 +1,106 @@
+//! Pin levels for runs: noise, and waveforms of a real master.
+
+use crate::device::{Device, CLK, DATA, FSS};
+use crate::random::Random;
+
+/// Levels of one kind of noise.
+pub fn noise(random: &mut Random, cycles: usize) -> Vec<u8> {
+    let level = random.below(8) as u8;
+    match random.below(5) {
+        0 => vec![level; cycles],
+        1 => (0..cycles).map(|_| random.below(8) as u8).collect(),
+        2 => (0..cycles).map(|_| level & (CLK | FSS) | random.pick(&[0, DATA])).collect(),
+        3 => sticky(random, cycles, 60),
+        _ => sticky(random, cycles, 15),
+    }
+}
+
+/// One pin changes this often in a hundred cycles.
+fn sticky(random: &mut Random, cycles: usize, often: u64) -> Vec<u8> {
+    let mut pins = random.below(8) as u8;
+    (0..cycles)
+        .map(|_| {
+            if random.percent(often) {
+                // FSS changes rarely, so that words can be whole.
+                pins ^= if random.percent(12) { FSS } else { random.pick(&[CLK, CLK, DATA]) };
+            }
+            pins
+        })
+        .collect()
+}
+
+/// What a master with these settings shows: words, pauses, idle time.
+pub fn master_wave(random: &mut Random, cr0: u32) -> Vec<u8> {
+    let mut master = Device::reset();
+    let half = if random.percent(80) { 6 + random.below(3) } else { 1 + random.below(6) };
+    let ready = master.write(0x00, cr0 & 0xFF).and(master.write(0x10, 2 * half as u32));
+    if ready.and(master.write(0x04, 2)).is_err() {
+        return noise(random, 100);
+    }
+    let mut wave = Vec::new();
+    for _ in 0..1 + random.below(4) {
+        for _ in 0..random.below(30) {
+            wave.push(master.cycle(0) & 7);
+        }
+        for _ in 0..1 + random.below(5) {
+            // A full queue drops the word, which is as good.
+            let _ = master.write(0x08, random.word());
+        }
+        while master.busy() {
+            wave.push(master.cycle(0) & 7);
+        }
+    }
+    wave
+}
+
+/// A waveform that a slave with this CR0 may meet, delayed and perhaps damaged.
+pub fn wave_for(random: &mut Random, cr0: u32) -> Vec<u8> {
+    let other = match random.below(10) {
+        0 => cr0 ^ 0x40,
+        1 => cr0 ^ 0x80,
+        2 => (cr0 & !0x3F) | random.pick(&[0x00, 0x10]) | (3 + random.below(13) as u32),
+        _ => cr0,
+    };
+    let delay = random.size(20);
+    let mut wave = noise(random, delay);
+    wave.extend(master_wave(random, other));
+    if random.percent(20) {
+        for _ in 0..1 + random.below(4) {
+            let at = random.size(wave.len());
+            wave[at] ^= random.pick(&[CLK, FSS, DATA]);
+        }
+    }
+    wave
+}
+
+/// Hands out a waveform piece by piece, and noise after its end.
+pub struct Source {
+    wave: Vec<u8>,
+    at: usize,
+}
+
+impl Source {
+    pub fn new(wave: Vec<u8>) -> Source {
+        Source { wave, at: 0 }
+    }
+
+    pub fn take(&mut self, random: &mut Random, cycles: usize) -> Vec<u8> {
+        let end = self.wave.len().min(self.at + cycles);
+        let mut piece = self.wave[self.at..end].to_vec();
+        self.at = end;
+        let missing = cycles - piece.len();
+        if missing > 0 {
+            piece.extend(noise(random, missing));
+        }
+        piece
+    }
+
+    /// Gives back what a run to idle did not reach.
+    pub fn put_back(&mut self, cycles: usize) {
+        self.at = self.at.saturating_sub(cycles);
+    }
+
+    pub fn is_over(&self) -> bool {
+        self.at >= self.wave.len()
+    }
+}

@@ -1,0 +1,172 @@
+//! Commands of the script language, as values, read and printed.
+
+use std::fmt;
+
+#[derive(Clone, PartialEq, Eq, Debug)]
+pub enum Command {
+    Reset {
+        device: usize,
+    },
+    Read {
+        device: usize,
+        offset: u32,
+    },
+    Write {
+        device: usize,
+        offset: u32,
+        value: u32,
+    },
+    Run {
+        device: usize,
+        input: Vec<u8>,
+        output_len: usize,
+    },
+    Idle {
+        device: usize,
+        input: Vec<u8>,
+        output_len: usize,
+    },
+    /// One call for all cycles.
+    PairRun {
+        cycles: u64,
+    },
+    /// One call for each cycle, to show the lines.
+    Pair {
+        cycles: u64,
+    },
+    Load {
+        device: usize,
+        bytes: Vec<u8>,
+    },
+    Save {
+        device: usize,
+    },
+    Dump {
+        device: usize,
+    },
+}
+
+pub fn hex(bytes: &[u8]) -> String {
+    if bytes.is_empty() {
+        return "-".to_string();
+    }
+    bytes.iter().map(|byte| format!("{byte:02x}")).collect()
+}
+
+/// One digit for each byte, `-` for none.
+pub fn digits(bytes: &[u8]) -> String {
+    if bytes.is_empty() {
+        return "-".to_string();
+    }
+    bytes.iter().map(|byte| format!("{byte:x}")).collect()
+}
+
+fn parse_digits(text: &str) -> Option<Vec<u8>> {
+    if text == "-" {
+        return Some(Vec::new());
+    }
+    text.chars().map(|c| c.to_digit(16).map(|digit| digit as u8)).collect()
+}
+
+fn parse_hex(text: &str) -> Option<Vec<u8>> {
+    let halves = parse_digits(text)?;
+    if halves.len() % 2 != 0 {
+        return None;
+    }
+    Some(halves.chunks(2).map(|pair| pair[0] << 4 | pair[1]).collect())
+}
+
+fn parse_device(text: &str) -> Option<usize> {
+    text.parse().ok().filter(|device| *device < 2)
+}
+
+fn parse_number(text: &str) -> Option<u32> {
+    u32::from_str_radix(text, 16).ok()
+}
+
+impl Command {
+    pub fn parse(line: &str) -> Option<Command> {
+        let words: Vec<&str> = line.split_whitespace().collect();
+        match words[..] {
+            ["pair", cycles] => Some(Command::Pair { cycles: cycles.parse().ok()? }),
+            ["pairrun", cycles] => Some(Command::PairRun { cycles: cycles.parse().ok()? }),
+            [name, device, ref rest @ ..] => parse_for(name, parse_device(device)?, rest),
+            _ => None,
+        }
+    }
+}
+
+fn parse_for(name: &str, device: usize, rest: &[&str]) -> Option<Command> {
+    match (name, rest) {
+        ("reset", []) => Some(Command::Reset { device }),
+        ("dump", []) => Some(Command::Dump { device }),
+        ("save", []) => Some(Command::Save { device }),
+        ("load", [bytes]) => Some(Command::Load { device, bytes: parse_hex(bytes)? }),
+        ("r", [offset]) => Some(Command::Read { device, offset: parse_number(offset)? }),
+        ("w", [offset, value]) => {
+            let (offset, value) = (parse_number(offset)?, parse_number(value)?);
+            Some(Command::Write { device, offset, value })
+        }
+        _ => parse_run(name, device, rest),
+    }
+}
+
+/// The short forms lend an output as long as the input.
+fn parse_run(name: &str, device: usize, rest: &[&str]) -> Option<Command> {
+    let (input, output_len) = match rest {
+        [input] => {
+            let input = parse_digits(input)?;
+            let output_len = input.len();
+            (input, output_len)
+        }
+        [input, output_len] => (parse_hex(input)?, output_len.parse().ok()?),
+        _ => return None,
+    };
+    match (name, rest.len()) {
+        ("run", 1) | ("lend", 2) => Some(Command::Run { device, input, output_len }),
+        ("idle", 1) | ("lendidle", 2) => Some(Command::Idle { device, input, output_len }),
+        _ => None,
+    }
+}
+
+/// The short form of a run says neither bytes above 15 nor another length.
+fn write_run(
+    f: &mut fmt::Formatter,
+    names: (&str, &str),
+    device: usize,
+    input: &[u8],
+    output_len: usize,
+) -> fmt::Result {
+    if is_short(input, output_len) {
+        write!(f, "{} {device} {}", names.0, digits(input))
+    } else {
+        write!(f, "{} {device} {} {output_len}", names.1, hex(input))
+    }
+}
+
+pub fn is_short(input: &[u8], output_len: usize) -> bool {
+    input.len() == output_len && input.iter().all(|byte| *byte <= 15)
+}
+
+impl fmt::Display for Command {
+    fn fmt(&self, f: &mut fmt::Formatter) -> fmt::Result {
+        match self {
+            Command::Reset { device } => write!(f, "reset {device}"),
+            Command::Read { device, offset } => write!(f, "r {device} {offset:x}"),
+            Command::Write { device, offset, value } => {
+                write!(f, "w {device} {offset:x} {value:x}")
+            }
+            Command::Run { device, input, output_len } => {
+                write_run(f, ("run", "lend"), *device, input, *output_len)
+            }
+            Command::Idle { device, input, output_len } => {
+                write_run(f, ("idle", "lendidle"), *device, input, *output_len)
+            }
+            Command::PairRun { cycles } => write!(f, "pairrun {cycles}"),
+            Command::Pair { cycles } => write!(f, "pair {cycles}"),
+            Command::Load { device, bytes } => write!(f, "load {device} {}", hex(bytes)),
+            Command::Save { device } => write!(f, "save {device}"),
+            Command::Dump { device } => write!(f, "dump {device}"),
+        }
+    }
+}

@@ -1,0 +1,17 @@
+//! A second, independent program for the PL022 serial port model, and the
+//! harness that compares it with the proved one call by call.
+
+pub mod bench;
+pub mod calls;
+pub mod cases;
+pub mod command;
+pub mod device;
+pub mod fault;
+pub mod library;
+pub mod model;
+pub mod open;
+pub mod random;
+pub mod record;
+pub mod recording;
+pub mod script;
+pub mod session;

@@ -1,0 +1,118 @@
+//! The proved implementation, called as a C program would call it.
+
+#[cfg(feature = "library")]
+pub use linked::Library;
+
+#[cfg(feature = "library")]
+mod linked {
+    use crate::model::Model;
+
+    #[repr(C)]
+    #[derive(Clone, Copy)]
+    struct Word {
+        refusal: u32,
+        word: u32,
+    }
+
+    #[repr(C)]
+    #[derive(Clone, Copy)]
+    struct Count {
+        refusal: u64,
+        count: u64,
+    }
+
+    extern "C" {
+        fn pl022_reset(record: *mut u8, record_len: usize) -> u32;
+        fn pl022_read(record: *mut u8, record_len: usize, offset: u32) -> Word;
+        fn pl022_write(record: *mut u8, record_len: usize, offset: u32, value: u32) -> u32;
+        fn pl022_run(
+            record: *mut u8,
+            record_len: usize,
+            input: *const u8,
+            input_len: usize,
+            output: *mut u8,
+            output_len: usize,
+        ) -> u32;
+        fn pl022_run_to_idle(
+            record: *mut u8,
+            record_len: usize,
+            input: *const u8,
+            input_len: usize,
+            output: *mut u8,
+            output_len: usize,
+        ) -> Count;
+        #[cfg(not(feature = "no_pairs"))]
+        fn pl022_pair_run(
+            first: *mut u8,
+            first_len: usize,
+            second: *mut u8,
+            second_len: usize,
+            cycles: u64,
+        ) -> u32;
+    }
+
+    /// The archive linked by build.rs.
+    pub struct Library;
+
+    // Each call lends live, disjoint slices; the archive keeps no pointer.
+    impl Model for Library {
+        fn reset(&self, record: &mut [u8]) -> u32 {
+            unsafe { pl022_reset(record.as_mut_ptr(), record.len()) }
+        }
+
+        fn read(&self, record: &mut [u8], offset: u32) -> (u32, u32) {
+            let answer = unsafe { pl022_read(record.as_mut_ptr(), record.len(), offset) };
+            (answer.refusal, answer.word)
+        }
+
+        fn write(&self, record: &mut [u8], offset: u32, value: u32) -> u32 {
+            unsafe { pl022_write(record.as_mut_ptr(), record.len(), offset, value) }
+        }
+
+        fn run(&self, record: &mut [u8], input: &[u8], output: &mut [u8]) -> u32 {
+            unsafe {
+                pl022_run(
+                    record.as_mut_ptr(),
+                    record.len(),
+                    input.as_ptr(),
+                    input.len(),
+                    output.as_mut_ptr(),
+                    output.len(),
+                )
+            }
+        }
+
+        fn run_to_idle(&self, record: &mut [u8], input: &[u8], output: &mut [u8]) -> (u64, u64) {
+            let answer = unsafe {
+                pl022_run_to_idle(
+                    record.as_mut_ptr(),
+                    record.len(),
+                    input.as_ptr(),
+                    input.len(),
+                    output.as_mut_ptr(),
+                    output.len(),
+                )
+            };
+            (answer.refusal, answer.count)
+        }
+
+        #[cfg(not(feature = "no_pairs"))]
+        fn pair_run(&self, first: &mut [u8], second: &mut [u8], cycles: u64) -> u32 {
+            let (first_len, second_len) = (first.len(), second.len());
+            unsafe {
+                pl022_pair_run(
+                    first.as_mut_ptr(),
+                    first_len,
+                    second.as_mut_ptr(),
+                    second_len,
+                    cycles,
+                )
+            }
+        }
+
+        #[cfg(feature = "no_pairs")]
+        fn pair_run(&self, _: &mut [u8], _: &mut [u8], _: u64) -> u32 {
+            panic!("built without the pair run")
+        }
+    }
+}

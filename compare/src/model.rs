@@ -1,0 +1,41 @@
+//! The calls as a trait, so that two programs can stand side by side.
+
+use crate::calls;
+
+pub trait Model {
+    fn reset(&self, record: &mut [u8]) -> u32;
+    fn read(&self, record: &mut [u8], offset: u32) -> (u32, u32);
+    fn write(&self, record: &mut [u8], offset: u32, value: u32) -> u32;
+    fn run(&self, record: &mut [u8], input: &[u8], output: &mut [u8]) -> u32;
+    fn run_to_idle(&self, record: &mut [u8], input: &[u8], output: &mut [u8]) -> (u64, u64);
+    fn pair_run(&self, first: &mut [u8], second: &mut [u8], cycles: u64) -> u32;
+}
+
+/// The program of this crate.
+pub struct Second;
+
+impl Model for Second {
+    fn reset(&self, record: &mut [u8]) -> u32 {
+        calls::reset(record)
+    }
+
+    fn read(&self, record: &mut [u8], offset: u32) -> (u32, u32) {
+        calls::read(record, offset)
+    }
+
+    fn write(&self, record: &mut [u8], offset: u32, value: u32) -> u32 {
+        calls::write(record, offset, value)
+    }
+
+    fn run(&self, record: &mut [u8], input: &[u8], output: &mut [u8]) -> u32 {
+        calls::run(record, input, output)
+    }
+
+    fn run_to_idle(&self, record: &mut [u8], input: &[u8], output: &mut [u8]) -> (u64, u64) {
+        calls::run_to_idle(record, input, output)
+    }
+
+    fn pair_run(&self, first: &mut [u8], second: &mut [u8], cycles: u64) -> u32 {
+        calls::pair_run(first, second, cycles)
+    }
+}

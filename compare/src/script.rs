@@ -1,0 +1,94 @@
+//! The command language: one answer line for each command.
+
+use crate::command::{digits, hex, is_short, Command};
+use crate::device::Device;
+use crate::record::{at, decode};
+use crate::session::{Outcome, Session};
+
+/// The answer to one line; None for blank lines and comments.
+pub fn answer_line(session: &mut Session, line: &str) -> Option<String> {
+    let line = line.trim();
+    if line.is_empty() || line.starts_with('#') {
+        return None;
+    }
+    Some(match Command::parse(line) {
+        Some(command) => answer(session, &command),
+        None => format!("not a command: {line}"),
+    })
+}
+
+pub fn answer(session: &mut Session, command: &Command) -> String {
+    match command {
+        Command::Pair { cycles } => return show_pair(session, *cycles),
+        Command::Save { device } => return hex(&session.records[*device]),
+        Command::Dump { device } => return show_dump(&session.records[*device]),
+        _ => {}
+    }
+    let outcome = session.call(command);
+    match command {
+        Command::Read { .. } => format!("{} {:x}", outcome.refusal, outcome.value),
+        Command::Run { input, output_len, .. } => {
+            let shown = show_output(&outcome, is_short(input, *output_len), outcome.output.len());
+            format!("{} {shown}", outcome.refusal)
+        }
+        Command::Idle { input, output_len, .. } => {
+            let count = outcome.value as usize;
+            let shown = show_output(&outcome, is_short(input, *output_len), count);
+            format!("{} {} {shown}", outcome.refusal, outcome.value)
+        }
+        _ => outcome.refusal.to_string(),
+    }
+}
+
+/// Digits in the short form, all bytes with two digits each in the long one.
+fn show_output(outcome: &Outcome, short: bool, shown: usize) -> String {
+    if !short {
+        hex(&outcome.output)
+    } else if outcome.refusal != 0 {
+        "-".to_string()
+    } else {
+        digits(&outcome.output[..shown])
+    }
+}
+
+fn show_pair(session: &mut Session, cycles: u64) -> String {
+    let mut lines = [Vec::new(), Vec::new()];
+    for _ in 0..cycles {
+        let outcome = session.call(&Command::PairRun { cycles: 1 });
+        if outcome.refusal != 0 {
+            return outcome.refusal.to_string();
+        }
+        for (shown, record) in lines.iter_mut().zip(&session.records) {
+            shown.push(record[at::LINES]);
+        }
+    }
+    format!("{} {}", digits(&lines[0]), digits(&lines[1]))
+}
+
+fn show_words(words: &[u16]) -> String {
+    let words: Vec<String> = words.iter().map(|word| format!("{word:x}")).collect();
+    words.join(",")
+}
+
+fn show_dump(record: &[u8]) -> String {
+    let device = record.try_into().ok().and_then(decode);
+    device.map_or("unsound".to_string(), |device| show_device(&device))
+}
+
+fn show_device(device: &Device) -> String {
+    format!(
+        "cr0={:x} cr1={:x} cpsr={:x} imsc={:x} dmacr={:x} tx={} rx={} ror={} rt={} rtcount={} frame={} lines={:x}",
+        device.cr0,
+        device.cr1,
+        device.cpsr,
+        device.imsc,
+        device.dmacr,
+        show_words(device.tx.words()),
+        show_words(device.rx.words()),
+        u8::from(device.ror),
+        u8::from(device.rt),
+        device.rt_count,
+        u8::from(device.frame),
+        device.lines,
+    )
+}

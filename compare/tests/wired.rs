@@ -1,0 +1,103 @@
+//! A master and a slave wired together bring every word across.
+
+use compare::calls::{pair_run, read, reset, write};
+use compare::random::Random;
+use compare::record::{at, LENGTH};
+
+const CR0: u32 = 0x00;
+const CR1: u32 = 0x04;
+const DR: u32 = 0x08;
+const CPSR: u32 = 0x10;
+
+fn set_up(random: &mut Random, cr0: u32, cpsr: u32, cr1: u32, words: &[u32]) -> [u8; LENGTH] {
+    let mut record = [0; LENGTH];
+    reset(&mut record);
+    // Words held from earlier, received in loopback.
+    write(&mut record, CR0, 0x0F);
+    write(&mut record, CPSR, 2);
+    write(&mut record, CR1, 3);
+    for _ in 0..random.below(9) {
+        write(&mut record, DR, random.word());
+        let mut output = [0; 36];
+        compare::calls::run(&mut record, &[2; 36], &mut output);
+    }
+    write(&mut record, CR1, 1);
+    write(&mut record, CR1, cr1);
+    write(&mut record, CR0, cr0);
+    write(&mut record, CPSR, cpsr);
+    for word in words {
+        assert_eq!(write(&mut record, DR, *word), 0);
+    }
+    record
+}
+
+fn held(record: &[u8; LENGTH]) -> Vec<u32> {
+    let mut copy = *record;
+    let count = copy[at::RX_COUNT];
+    (0..count).map(|_| read(&mut copy, DR).1).collect()
+}
+
+fn random_words(random: &mut Random) -> Vec<u32> {
+    (0..random.below(9)).map(|_| random.word()).collect()
+}
+
+fn busy(record: &mut [u8; LENGTH]) -> bool {
+    read(record, 0x0C).1 & 0x10 != 0
+}
+
+/// First eight of all; whether some were lost.
+fn expected(before: &[u32], words: &[u32], b: u32) -> (Vec<u32>, u8) {
+    let mut all = before.to_vec();
+    all.extend(words.iter().map(|word| word & (0xFFFF >> (16 - b))));
+    let lost = u8::from(all.len() > 8);
+    all.truncate(8);
+    (all, lost)
+}
+
+fn slot_total(format: u32, b: u64, n: u64) -> u64 {
+    match format & 0x90 {
+        _ if n == 0 => 0,
+        0x00 => n * (2 * b + 4),
+        0x80 => 2 * b * n + 4,
+        _ => 2 * b * n + 2,
+    }
+}
+
+fn one_pair(random: &mut Random) {
+    let b = 4 + random.below(13) as u32;
+    let format = random.pick(&[0x00, 0x40, 0x80, 0xC0, 0x10]) | (b - 1);
+    let h = 6 + random.below(5) as u32;
+    let (master_words, slave_words) = (random_words(random), random_words(random));
+    let mut master = set_up(random, format, 2 * h, 0, &master_words);
+    let speed = 2 + 2 * random.below(9) as u32;
+    let mut slave = set_up(random, format, speed, 4, &slave_words);
+    pair_run(&mut master, &mut slave, 4 + random.below(5));
+    assert_eq!(write(&mut slave, CR1, 6), 0);
+    pair_run(&mut master, &mut slave, random.pick(&[0, 0, 1, 2, 7, 50]));
+    let before = [held(&master), held(&slave)];
+    assert_eq!(write(&mut master, CR1, 2), 0);
+    let mut cycles = 0;
+    while busy(&mut master) {
+        pair_run(&mut master, &mut slave, 1);
+        cycles += 1;
+    }
+    let n = master_words.len();
+    assert!(cycles <= slot_total(format, u64::from(b), n as u64) * u64::from(h));
+    let mut answers = slave_words;
+    answers.resize(8, 0);
+    for _ in 0..3 {
+        let (words, lost) = expected(&before[1], &master_words, b);
+        assert_eq!((held(&slave), slave[at::ROR]), (words, lost), "slave, cr0 {format:x} h {h}");
+        let (words, lost) = expected(&before[0], &answers[..n], b);
+        assert_eq!((held(&master), master[at::ROR]), (words, lost), "master, cr0 {format:x} h {h}");
+        pair_run(&mut master, &mut slave, 97);
+    }
+}
+
+#[test]
+fn every_word_comes_across() {
+    let mut random = Random::new(0x0301);
+    for _ in 0..600 {
+        one_pair(&mut random);
+    }
+}

@@ -1,0 +1,100 @@
+-- Enabling: the CR1 write that sets SSE in a sound record leaves a fresh master, so its recording tells its load.
+use Prim.Native.Nat.{ℕ, _*_}
+use mathlib.Core.Path.{_≡_, refl, sym, ap, _∙_, subst}
+use mathlib.Core.Bool.{Bool, true, false, not, _&&_}
+use mathlib.Core.List.{List, map}
+use lib.Dec.{eqb}
+use lib.ListN.{length}
+use borrow.Author.Tests.{eqb-true}
+use Rattle.registers.specs.Choose.Laws.{pick-no, and-left, and-right, not-told}
+use Rattle.registers.specs.Settings.{enabledOf, settingsOf}
+use Rattle.registers.specs.Access.{writeModel}
+use Rattle.registers.specs.Sound.Laws.{enabled-told, control-tell, sound-told}
+use Rattle.registers.specs.declared.settings.Settings.{Settings}
+use Rattle.serial.specs.Slots.{widthOf}
+use Rattle.serial.specs.Lines.{byteOf}
+use Rattle.serial.specs.Cycle.{DeviceModel}
+use Rattle.serial.specs.Master.Laws.{Masters}
+use Rattle.serial.specs.Access.{engineAfter, writeDevice}
+use Rattle.serial.specs.Sound.{stoppedSound, engineSound, soundDevice}
+use Rattle.serial.specs.Sound.Laws.{sound-registers, sound-engine, sound-write}
+use Rattle.serial.specs.Pair.Top.{cut}
+use Rattle.serial.specs.Alone.{slotTotal, recording}
+use Rattle.serial.specs.Alone.Recorded.{Fresh, load-bytes-told}
+use Rattle.serial.specs.declared.engine.Engine.{Engine}
+use Rattle.serial.specs.declared.lines.Pins.{Pins}
+
+-- no frame and no idle slot
+pub record Stopped (e : Engine) : Type 0 where
+  pub frame : e .frame ≡ false
+  pub slot : e .slot .0 ≡ 0
+  pub gone : e .gone .0 ≡ 0
+
+stopped-told : (e : Engine) → stoppedSound e ≡ true → Stopped e
+unfolding stoppedSound
+stopped-told e h =
+    let flags = and-left ((not (e .frame) && not (e .selected)) && not (e .mark)) _ h in
+    let counts = and-left (eqb (e .slot .0) 0 && eqb (e .gone .0) 0) _ (and-right ((not (e .frame) && not (e .selected)) && not (e .mark)) _ h) in
+    record {
+      frame = not-told (e .frame) (and-left (not (e .frame)) _ (and-left (not (e .frame) && not (e .selected)) _ flags));
+      slot = eqb-true (e .slot .0) 0 (and-left (eqb (e .slot .0) 0) _ counts);
+      gone = eqb-true (e .gone .0) 0 (and-right (eqb (e .slot .0) 0) _ counts);
+    }
+
+-- With SSE clear a sound engine is stopped.
+pub sound-stopped : (d : DeviceModel) → soundDevice d ≡ true → enabledOf (d .registers .control) ≡ false → Stopped (d .engine)
+unfolding engineSound settingsOf
+sound-stopped d h k = stopped-told (d .engine) (sym (pick-no _ _ k) ∙ sound-engine d h)
+
+-- A sound, enabled master whose engine is stopped.
+pub fresh-sound : (d : DeviceModel) → soundDevice d ≡ true → enabledOf (d .registers .control) ≡ true → Masters d → Stopped (d .engine) → Fresh (settingsOf (d .registers .control)) d
+unfolding settingsOf
+fresh-sound d h e m z =
+    let c = d .registers .control in
+    let t = enabled-told c (control-tell c (sound-told (d .registers) (sound-registers d h) .control)) e in
+    record {
+      set = refl;
+      enabled = e;
+      master = m;
+      serves = t .format;
+      least = t .least;
+      most = t .most;
+      half = t .half;
+      frame = z .frame;
+      slot = z .slot;
+      gone = z .gone;
+    }
+
+-- An access by which SSE goes from 0 to 1 leaves the engine.
+engine-enabling : (d : DeviceModel) (o v : ℕ) → enabledOf (d .registers .control) ≡ false → writeDevice d o v .engine ≡ d .engine
+unfolding writeDevice engineAfter
+engine-enabling d o v k = pick-no _ _ (ap (λ (t : Bool). t && not (enabledOf (writeModel (d .registers) o v .control))) k)
+
+-- The write that enables a master. Its load is the transmit queue that it leaves.
+pub record Enabling (s : Settings) (d : DeviceModel) (o v : ℕ) : Type 0 where
+  pub sound : soundDevice d ≡ true
+  pub clear : enabledOf (d .registers .control) ≡ false
+  pub set : settingsOf (writeDevice d o v .registers .control) ≡ s
+  pub enabled : s .enabled ≡ true
+  pub master : s .slave ≡ false
+
+pub fresh-enabling : (s : Settings) (d : DeviceModel) (o v : ℕ) → Enabling s d o v → Fresh s (writeDevice d o v)
+unfolding settingsOf
+fresh-enabling s d o v k =
+    let d′ = writeDevice d o v in
+    subst (λ (u : Settings). Fresh u d′) (k .set)
+    (fresh-sound d′ (sound-write d o v (k .sound)) (ap (λ (u : Settings). u .enabled) (k .set) ∙ k .enabled) (ap (λ (u : Settings). u .slave) (k .set) ∙ k .master)
+    (subst Stopped (sym (engine-enabling d o v (k .clear))) (sound-stopped d (k .sound) (k .clear))))
+
+-- The cycles of a load from enabling to its last idle slot: the slot total times h.
+abbrev pub WholeLoad : Settings → DeviceModel → List Pins → Type 0
+WholeLoad s d ps = length ps ≡ slotTotal s (length (d .registers .tx)) * s .half
+
+-- For given master settings, no frame in progress at enabling and no access after it, two loads that give the same output bytes
+-- from enabling to the last idle slot, whatever the input pins carry, are equal after cutting to b bits, Microwire to 8.
+pub enabling-told : (s : Settings) (d d′ : DeviceModel) (o v o′ v′ : ℕ) → Enabling s d o v → Enabling s d′ o′ v′ → (ps qs : List Pins)
+    → WholeLoad s (writeDevice d o v) ps → WholeLoad s (writeDevice d′ o′ v′) qs
+    → map byteOf (recording (writeDevice d o v) ps) ≡ map byteOf (recording (writeDevice d′ o′ v′) qs)
+    → map (cut (widthOf s)) (writeDevice d o v .registers .tx) ≡ map (cut (widthOf s)) (writeDevice d′ o′ v′ .registers .tx)
+enabling-told s d d′ o v o′ v′ k k′ ps qs l l′ e =
+    load-bytes-told s (writeDevice d o v) (writeDevice d′ o′ v′) (fresh-enabling s d o v k) (fresh-enabling s d′ o′ v′ k′) ps qs l l′ e
