@@ -156,4 +156,19 @@ struct pl022_count pl022_run_to_idle(uint8_t *record, size_t record_len,
                                      const uint8_t *input, size_t input_len,
                                      uint8_t *output, size_t output_len);
 
+/*
+ * pl022_pair_run: runs two devices, wired together, for a number of cycles.
+ *
+ * In each cycle the input of either device is the other's output in the cycle before:
+ * CLK and FSS as driven, RXD the other's TXD, LOW where the other releases it. Accesses
+ * between calls do not change what the next cycle sees. No cycles are done too.
+ *
+ * Returns     0; or 10 if either record is not 128 bytes long, then 9 if either is not
+ *             sound.
+ * Unchanged   both records, if refused.
+ * You owe     valid pointers to first_len and second_len bytes that do not overlap.
+ */
+uint32_t pl022_pair_run(uint8_t *first, size_t first_len,
+                        uint8_t *second, size_t second_len, uint64_t cycles);
+
 #endif

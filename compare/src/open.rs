@@ -50,6 +50,11 @@ fn master(device: &Device) -> Open {
         return when(!in_idle_slot(device), Open::Lines);
     }
     let first = device.gone == 0;
+    let released = first && device.slot + 1 == device.last_slot();
+    if in_idle_slot(device) && !released {
+        // A frame that goes on where its lines are idle.
+        return Open::Lines;
+    }
     if first && device.slot == 0 {
         // A frame that stands before its own start.
         let joined = device.format() == Format::Ti && device.captured > 0;
@@ -97,6 +102,10 @@ fn motorola_slave(device: &Device) -> Open {
         return Open::Nothing;
     }
     let full = device.captured == device.bits();
+    if device.frame && full {
+        // A frame past its last capture.
+        return Open::State;
+    }
     let edge = seen.rose(CLK) || seen.fell(CLK);
     let to_active = seen.high(CLK) != device.spo();
     let takes = device.sph() && to_active;
@@ -109,8 +118,7 @@ fn motorola_slave(device: &Device) -> Open {
         return if word_missing { Open::State } else { when(level, Open::Lines) };
     }
     let captures = to_active != device.sph();
-    let next_word = full && takes;
-    when(edge && (next_word || captures && completes_stale_word(device)), Open::State)
+    when(edge && captures && completes_stale_word(device), Open::State)
 }
 
 fn ti_slave(device: &Device) -> Open {
@@ -119,12 +127,16 @@ fn ti_slave(device: &Device) -> Open {
         return Open::Nothing;
     }
     let full = device.captured == device.bits();
+    if full {
+        // A frame past its last capture.
+        return Open::State;
+    }
     let last = device.captured + 1 == device.bits();
     if seen.rose(CLK) {
-        return when(device.mark || full, Open::State);
+        return when(device.mark, Open::State);
     }
     let start = seen.high(FSS);
     let mark_stays = last && device.mark && !start;
-    let state = full && start || mark_stays || completes_stale_word(device);
+    let state = mark_stays || completes_stale_word(device);
     when(seen.fell(CLK) && state, Open::State)
 }

@@ -2,7 +2,7 @@
 use Prim.Native.Nat.{ℕ, _<_}
 use mathlib.Core.Path.{_≡_, refl, sym, _∙_, ap}
 use mathlib.Core.List.{List}
-use mathlib.Core.Bool.{Bool, true, false, not}
+use mathlib.Core.Bool.{Bool, true, false, not, _||_}
 use native.Mathlib.Omega.{arith}
 use lib.Dec.{eqb}
 use lib.ListN.{length, take}
@@ -18,7 +18,9 @@ use Rattle.serial.specs.Cycle.{DeviceModel, deviceOf, resetDevice}
 use Rattle.serial.specs.Access.{readAnswerOf, readDevice, writeRefusalOf, writeDevice, ReadAs, WrittenAs}
 use Rattle.serial.specs.Record.{encodeOf, encodedIn, decodeOf, soundBytes}
 use Rattle.serial.specs.Run.{after, outputs, inputsFit, stopsOn, countUntil, idleCount, written, served, RanAs, runRefusal}
-use Rattle.serial.specs.Calls.{resetRefusal, recordRefusal, readCall, writeCall, idleCall, ResetCall, ReadCall, WriteCall, RunCall, IdleCall}
+use Rattle.serial.specs.Calls.{resetRefusal, recordRefusal, readCall, writeCall, idleCall, ResetCall, ReadCall, WriteCall, RunCall, IdleCall, pairRefusal, pairAfter, PairCall}
+use Rattle.serial.specs.Pair.{PairModel, later, pairOf}
+use Rattle.serial.specs.declared.pair.Wired.{Wired}
 use Rattle.serial.specs.declared.Device.{Device}
 use Rattle.serial.specs.declared.access.Reading.{Reading}
 use Rattle.serial.specs.declared.access.Written.{Written}
@@ -152,3 +154,27 @@ module _ (b i o : List ℕ) (n : ℕ) (e : n ≡ runRefusal b i o) where
   pub idle-unserved : eqb n 0 ≡ false → IdleCall b i o (record { refusal = n; count = 0 }) b o
   unfolding idleCall
   idle-unserved f = record { refusal = e; count = rw (← e, f); left = rw (← e, f); output = rw (← e, f) }
+
+-- Pairs ----------------------------------------------------------------------------------------------------------------
+
+either : (s t : Bool) (k r : ℕ) → 0 < k → pick (not s || not t) k r ≡ 0 → (s ≡ true) × (t ≡ true) × (r ≡ 0)
+either true true k r h e = (refl, refl, e)
+either true false k r h e = absurd (omega arith)
+either false t k r h e = absurd (omega arith)
+
+module _ (one two : List ℕ) (n : ℕ) (e : n ≡ pairRefusal one two) where
+  pub pair-done : (cycles : ℕ) (one′ two′ : List ℕ) (p : PairModel) (w : Wired) → eqb n 0 ≡ true → pairOf w ≡ later cycles p → p ≡ record { first = decodeOf one; second = decodeOf two }
+      → one′ ≡ encodedIn (deviceOf (w .first)) one → two′ ≡ encodedIn (deviceOf (w .second)) two → PairCall one two cycles 0 one′ two′
+  unfolding pairRefusal pairAfter pairOf
+  pair-done cycles one′ two′ p w t h s j k =
+      let z : pairRefusal one two ≡ 0 = sym e ∙ eqb-true n 0 t in
+      let l = either (eqb (length one) 128) (eqb (length two) 128) 10 (pick (not (soundBytes one) || not (soundBytes two)) 9 0) (omega arith) z in
+      let g : pairOf w ≡ pairAfter one two cycles = h ∙ ap (later cycles) s in
+      record {
+        refusal = sym z;
+        first = stored one one′ (deviceOf (w .first)) (pairAfter one two cycles .first) (l .0) j (ap (λ (x : PairModel). x .first) g) ∙ sym (ap (λ (r : ℕ). pick (eqb r 0) (encodeOf (pairAfter one two cycles .first)) one) z);
+        second = stored two two′ (deviceOf (w .second)) (pairAfter one two cycles .second) (l .1) k (ap (λ (x : PairModel). x .second) g) ∙ sym (ap (λ (r : ℕ). pick (eqb r 0) (encodeOf (pairAfter one two cycles .second)) two) z);
+      }
+
+  pub pair-refused : (cycles : ℕ) → eqb n 0 ≡ false → PairCall one two cycles n one two
+  pair-refused cycles f = record { refusal = e; first = rw (← e, f); second = rw (← e, f) }

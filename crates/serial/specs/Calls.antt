@@ -1,7 +1,7 @@
 -- What each C call answers, and what it leaves in the bytes that are lent to it. A refused call leaves them all as they were.
 use Prim.Native.Nat.{ℕ}
 use mathlib.Core.Path.{_≡_}
-use mathlib.Core.Bool.{Bool, not}
+use mathlib.Core.Bool.{Bool, not, _||_}
 use mathlib.Core.List.{List}
 use lib.ListN.{length, take}
 use lib.Dec.{eqb}
@@ -12,6 +12,7 @@ use Rattle.registers.specs.declared.access.Answer.the-variants.{Word, Refused}
 use Rattle.serial.specs.Cycle.{DeviceModel, resetDevice}
 use Rattle.serial.specs.Access.{readAnswerOf, readDevice, writeRefusalOf, writeDevice}
 use Rattle.serial.specs.Record.{recordLength, encodeOf, decodeOf, soundBytes}
+use Rattle.serial.specs.Pair.{PairModel, later}
 use Rattle.serial.specs.Run.{after, outputs, idleCount, written, wrongLength, unsound, runRefusal}
 use Rattle.serial.specs.declared.calls.WordResult.{WordResult}
 use Rattle.serial.specs.declared.calls.CountResult.{CountResult}
@@ -76,6 +77,25 @@ pub record IdleCall (bytes ins outs : List ℕ) (r : CountResult) (bytes′ outs
   pub count : r .count ≡ idleCall bytes ins outs
   pub left : bytes′ ≡ leftBy (runRefusal bytes ins outs) (after (decodeOf bytes) (take (idleCall bytes ins outs) ins)) bytes
   pub output : outs′ ≡ pick (eqb (runRefusal bytes ins outs) done) (written (decodeOf bytes) (idleCall bytes ins outs) ins outs) outs
+
+-- Pairs ----------------------------------------------------------------------------------------------------------------
+
+-- 10, then 9, if either record would be refused so.
+unfoldable pub pairRefusal : List ℕ → List ℕ → ℕ
+pairRefusal one two =
+    pick (not (eqb (length one) recordLength) || not (eqb (length two) recordLength)) wrongLength
+    (pick (not (soundBytes one) || not (soundBytes two)) unsound
+    done)
+
+-- The two devices of the records, after so many pair cycles.
+unfoldable pub pairAfter : List ℕ → List ℕ → ℕ → PairModel
+pairAfter one two n = later n (record { first = decodeOf one; second = decodeOf two })
+
+-- A pair run: both records hold the devices after that many pair cycles.
+pub record PairCall (one two : List ℕ) (n r : ℕ) (one′ two′ : List ℕ) : Type 0 where
+  pub refusal : r ≡ pairRefusal one two
+  pub first : one′ ≡ leftBy (pairRefusal one two) (pairAfter one two n .first) one
+  pub second : two′ ≡ leftBy (pairRefusal one two) (pairAfter one two n .second) two
 
 -- Histories ------------------------------------------------------------------------------------------------------------
 

@@ -1,4 +1,4 @@
--- Demand 3, its first part, as a statement: what is compared, from which starts, over which lists of steps. No proof stands here.
+-- Demand 3 as a statement: what is compared, from which starts, over which lists of steps. No proof stands here: `demand3` of Pair/Claim.antt proves the first part, `enabling-told` of Alone/Enabled.antt the last sentence.
 use Prim.Native.Nat.{ℕ, zero, suc, _+_, _*_, _%_, _^_, _≤_, _<_}
 use mathlib.Core.Path.{_≡_}
 use mathlib.Core.Bool.{Bool, true, false}
@@ -7,7 +7,7 @@ use mathlib.Core.List.{List, [], _∷_, _++_, map}
 use lib.Dec.{ltb}
 use lib.ListN.{length, take, replicate}
 use Rattle.registers.specs.Flags.{busyOf}
-use Rattle.registers.specs.Settings.{settingsOf, permittedOf}
+use Rattle.registers.specs.Settings.{settingsOf, enabledOf, permittedOf}
 use Rattle.registers.specs.declared.Control.{Control}
 use Rattle.registers.specs.declared.settings.Format.{Format}
 use Rattle.registers.specs.declared.settings.Format.the-variants.{Motorola, Ti, Microwire, Reserved}
@@ -15,6 +15,10 @@ use Rattle.registers.specs.declared.settings.Settings.{Settings}
 use Rattle.serial.specs.Cycle.{DeviceModel, completedOf}
 use Rattle.serial.specs.Access.{readDevice, writeDevice}
 use Rattle.serial.specs.Sound.{soundDevice}
+use Rattle.serial.specs.Alone.{slotTotal, recording}
+use Rattle.serial.specs.Lines.{byteOf}
+use Rattle.serial.specs.Slots.{widthOf}
+use Rattle.serial.specs.declared.lines.Pins.{Pins}
 use Rattle.serial.specs.Pair.{wire, PairModel, pairCycle, later}
 
 -- Steps ----------------------------------------------------------------------------------------------------------------
@@ -128,15 +132,6 @@ abbrev pub due : ℕ → Which → PairModel → List ℕ
 due b master g = map (cutTo b) (take (length (load master g)) (load slave g ++ replicate (length (load master g)) 0))
 due b slave g = map (cutTo b) (load master g)
 
--- Slots for n words, idle ones included.
-abbrev pub slotTotal : Format → Bool → ℕ → ℕ → ℕ
-slotTotal f phase b zero = 0
-slotTotal Motorola false b (suc n) = suc n * (2 * b + 4)
-slotTotal Motorola true b (suc n) = 2 * b * suc n + 4
-slotTotal Ti phase b (suc n) = 2 * b * suc n + 2
-slotTotal Microwire phase b (suc n) = suc n * (2 * b + 18) + 3
-slotTotal Reserved phase b (suc n) = 0
-
 -- The cycles from the master's enabling to its first BSY 0.
 abbrev pub busyFor : Format → Bool → ℕ → ℕ → ℕ → ℕ
 busyFor f phase b h zero = 0
@@ -156,7 +151,7 @@ pub record Received (b n : ℕ) (d : Which) (g : PairModel) : Type 0 where
 pub record Exchanged (g : PairModel) : Type 0 where
   pub at : ℕ
   pub figure : at ≡ busyFor (settingsOf (controlOf master g) .format) (settingsOf (controlOf master g) .phase) (settingsOf (controlOf master g) .bits) (settingsOf (controlOf master g) .half) (length (load master g))
-  pub bound : at ≤ slotTotal (settingsOf (controlOf master g) .format) (settingsOf (controlOf master g) .phase) (settingsOf (controlOf master g) .bits) (length (load master g)) * settingsOf (controlOf master g) .half
+  pub bound : at ≤ slotTotal (settingsOf (controlOf master g)) (length (load master g)) * settingsOf (controlOf master g) .half
   pub busy-before : (i : ℕ) → i < at → busy master (later i g) ≡ true
   pub free : busy master (later at g) ≡ false
   pub master-received : (j : ℕ) → Received (settingsOf (controlOf master g) .bits) (at + j) master g
@@ -169,7 +164,30 @@ slaveOn pre p = play (enables slave (plays pre p)) (plays pre p)
 abbrev pub masterOn : List Step → List Step → PairModel → PairModel
 masterOn pre mid p = play (enables master (plays mid (slaveOn pre p))) (plays mid (slaveOn pre p))
 
--- The claim.
+-- The first part.
 abbrev pub Demand3 : Type 0
 Demand3 =
     (p : PairModel) (pre mid : List Step) → Start p → 4 ≤ cyclesIn pre → Stays pre p → Stays mid (slaveOn pre p) → Exchanged (masterOn pre mid p)
+
+-- The last sentence ----------------------------------------------------------------------------------------------------
+
+-- The write that enables a master. Its load is the transmit queue that it leaves.
+pub record Enabling (s : Settings) (d : DeviceModel) (o v : ℕ) : Type 0 where
+  pub sound : soundDevice d ≡ true
+  pub clear : enabledOf (d .registers .control) ≡ false
+  pub set : settingsOf (writeDevice d o v .registers .control) ≡ s
+  pub enabled : s .enabled ≡ true
+  pub master : s .slave ≡ false
+
+-- The cycles of a load from enabling to its last idle slot: the slot total times h.
+abbrev pub WholeLoad : Settings → DeviceModel → List Pins → Type 0
+WholeLoad s d ps = length ps ≡ slotTotal s (length (d .registers .tx)) * s .half
+
+-- For given master settings, no frame in progress at enabling and no access after it: two loads that give the same output bytes
+-- from enabling to the last idle slot, whatever the input pins carry, are equal after cutting to b bits, Microwire to 8.
+abbrev pub LastSentence : Type 0
+LastSentence =
+    (s : Settings) (d d′ : DeviceModel) (o v o′ v′ : ℕ) → Enabling s d o v → Enabling s d′ o′ v′ → (ps qs : List Pins)
+    → WholeLoad s (writeDevice d o v) ps → WholeLoad s (writeDevice d′ o′ v′) qs
+    → map byteOf (recording (writeDevice d o v) ps) ≡ map byteOf (recording (writeDevice d′ o′ v′) qs)
+    → map (cutTo (widthOf s)) (writeDevice d o v .registers .tx) ≡ map (cutTo (widthOf s)) (writeDevice d′ o′ v′ .registers .tx)

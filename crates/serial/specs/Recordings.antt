@@ -3,14 +3,13 @@ use Prim.{Unit, tt}
 use Prim.Native.Nat.{ℕ, zero, suc, _/_, _%_, _^_}
 use mathlib.Core.Path.{_≡_, refl}
 use mathlib.Core.List.{List, [], _∷_}
-use Rattle.queue.specs.Fifo.{added}
 use Rattle.registers.specs.Refusals.{done}
 use Rattle.registers.specs.Time.{cyclesOf}
 use Rattle.registers.specs.Offsets.{placeOf}
 use Rattle.registers.specs.Settings.{formatOf, permittedOf, bitsOf, halfOf, enabledOf, settingsOf}
 use Rattle.registers.specs.Flags.{busyOf, statusOf, rawOf, interruptWord}
 use Rattle.registers.specs.Access.{dataTaken, readAnswer, readModel, cr0Rule, cr1Rule, cpsrRule, drRule, writeRefusal, cr0Written, cr1Written, cpsrWritten, drWritten, dmacrWritten, writeModel}
-use Rattle.registers.specs.Transfer.{waitingOf, nextWord, sentModel, receivedModel, idlesOf, limitOf, timeoutOf, endedModel}
+use Rattle.registers.specs.Transfer.{added, waitingOf, nextWord, sentModel, receivedModel, idlesOf, limitOf, timeoutOf, endedModel}
 use Rattle.registers.specs.declared.access.Answer.{Answer}
 use Rattle.registers.specs.declared.access.Answer.the-variants.{Word, Refused}
 use Rattle.serial.specs.Bits.{bitOf, shiftedIn}

@@ -2,7 +2,8 @@
 ghost use mathlib.Core.Path.{_≡_};
 ghost use Rattle.registers.specs.Refusals.{refusalOf};
 ghost use Rattle.serial.specs.Run.{runRefusal};
-ghost use Rattle.serial.specs.Calls.{resetRefusal, recordRefusal, ResetCall, ReadCall, WriteCall, RunCall, IdleCall};
+ghost use Rattle.serial.specs.Calls.{resetRefusal, recordRefusal, ResetCall, ReadCall, WriteCall, RunCall, IdleCall, pairRefusal, PairCall};
+use crate::pair::Wired;
 use crate::record::RECORD_LENGTH;
 use crate::run::Rule;
 use registers::access::Answer;
@@ -183,4 +184,41 @@ pub extern "C" fn pl022_run_to_idle(
         refusal: refusal as u64,
         count: 0,
     }
+}
+
+fn pair_refusal(first: &[u8], second: &[u8]) -> u32
+    ensures { λ r. ⌜ r ≡ pairRefusal (now (first .entry)) (now (second .entry)) ⌝ }
+{
+    let wrong = (first.len() != RECORD_LENGTH) | (second.len() != RECORD_LENGTH);
+    if wrong {
+        return WRONG_LENGTH;
+    }
+    let one = crate::record::sound(first);
+    let two = crate::record::sound(second);
+    let unsound = !one | !two;
+    if unsound { UNSOUND } else { DONE }
+}
+
+// Runs two wired devices for so many cycles.
+#[no_mangle]
+pub extern "C" fn pl022_pair_run(first: &mut [u8], second: &mut [u8], cycles: u64) -> u32
+    ensures { λ r. ⌜ PairCall (now (first .entry)) (now (second .entry)) cycles r (now (first .exit)) (now (second .exit)) ⌝ }
+{
+    let refusal = pair_refusal(first, second);
+    let done = refusal == DONE;
+    if done {
+        let one = crate::record::decode(first);
+        let two = crate::record::decode(second);
+        let start = Wired {
+            first: one,
+            second: two,
+        };
+        let end = crate::pair::pair_run(start, cycles);
+        let after_one = end.first;
+        let after_two = end.second;
+        crate::record::encode(after_one, first);
+        crate::record::encode(after_two, second);
+        return DONE;
+    }
+    refusal
 }

@@ -23,6 +23,7 @@ use Rattle.serial.specs.Alone.{slotTotal, recording}
 use Rattle.serial.specs.Alone.Recorded.{Fresh, load-bytes-told}
 use Rattle.serial.specs.declared.engine.Engine.{Engine}
 use Rattle.serial.specs.declared.lines.Pins.{Pins}
+use Rattle.serial.specs.Demand3.{Enabling, LastSentence}
 
 -- no frame and no idle slot
 pub record Stopped (e : Engine) : Type 0 where
@@ -70,14 +71,6 @@ engine-enabling : (d : DeviceModel) (o v : ℕ) → enabledOf (d .registers .con
 unfolding writeDevice engineAfter
 engine-enabling d o v k = pick-no _ _ (ap (λ (t : Bool). t && not (enabledOf (writeModel (d .registers) o v .control))) k)
 
--- The write that enables a master. Its load is the transmit queue that it leaves.
-pub record Enabling (s : Settings) (d : DeviceModel) (o v : ℕ) : Type 0 where
-  pub sound : soundDevice d ≡ true
-  pub clear : enabledOf (d .registers .control) ≡ false
-  pub set : settingsOf (writeDevice d o v .registers .control) ≡ s
-  pub enabled : s .enabled ≡ true
-  pub master : s .slave ≡ false
-
 pub fresh-enabling : (s : Settings) (d : DeviceModel) (o v : ℕ) → Enabling s d o v → Fresh s (writeDevice d o v)
 unfolding settingsOf
 fresh-enabling s d o v k =
@@ -86,15 +79,7 @@ fresh-enabling s d o v k =
     (fresh-sound d′ (sound-write d o v (k .sound)) (ap (λ (u : Settings). u .enabled) (k .set) ∙ k .enabled) (ap (λ (u : Settings). u .slave) (k .set) ∙ k .master)
     (subst Stopped (sym (engine-enabling d o v (k .clear))) (sound-stopped d (k .sound) (k .clear))))
 
--- The cycles of a load from enabling to its last idle slot: the slot total times h.
-abbrev pub WholeLoad : Settings → DeviceModel → List Pins → Type 0
-WholeLoad s d ps = length ps ≡ slotTotal s (length (d .registers .tx)) * s .half
-
--- For given master settings, no frame in progress at enabling and no access after it, two loads that give the same output bytes
--- from enabling to the last idle slot, whatever the input pins carry, are equal after cutting to b bits, Microwire to 8.
-pub enabling-told : (s : Settings) (d d′ : DeviceModel) (o v o′ v′ : ℕ) → Enabling s d o v → Enabling s d′ o′ v′ → (ps qs : List Pins)
-    → WholeLoad s (writeDevice d o v) ps → WholeLoad s (writeDevice d′ o′ v′) qs
-    → map byteOf (recording (writeDevice d o v) ps) ≡ map byteOf (recording (writeDevice d′ o′ v′) qs)
-    → map (cut (widthOf s)) (writeDevice d o v .registers .tx) ≡ map (cut (widthOf s)) (writeDevice d′ o′ v′ .registers .tx)
+-- Demand 3, its last sentence.
+pub enabling-told : LastSentence
 enabling-told s d d′ o v o′ v′ k k′ ps qs l l′ e =
     load-bytes-told s (writeDevice d o v) (writeDevice d′ o′ v′) (fresh-enabling s d o v k) (fresh-enabling s d′ o′ v′ k′) ps qs l l′ e

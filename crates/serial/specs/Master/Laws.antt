@@ -6,12 +6,11 @@ use mathlib.Core.List.{List}
 use lib.ListN.{length, getD}
 use lib.Dec.{ltb, eqb}
 use borrow.Author.Tests.{ne-eqb}
-use Rattle.queue.specs.Fifo.{rest}
 use Rattle.registers.specs.Choose.{pick}
 use Rattle.registers.specs.Choose.Laws.{pick-yes, pick-no, pick-both, pick-ap, pick-alike}
 use Rattle.registers.specs.Model.{Model}
 use Rattle.registers.specs.Settings.{enabledOf, settingsOf}
-use Rattle.registers.specs.Transfer.{waitingOf, nextWord, sentModel, receivedModel, endedModel}
+use Rattle.registers.specs.Transfer.{rest, waitingOf, nextWord, sentModel, receivedModel, endedModel}
 use Rattle.registers.specs.declared.Control.{Control}
 use Rattle.registers.specs.declared.settings.Settings.{Settings}
 use Rattle.serial.specs.Engine.{withShift, driven, capturedOf, completes, still, captureStep}

@@ -24,6 +24,7 @@ use Rattle.serial.specs.Cycle.{DeviceModel, deviceStep, stepOf}
 use Rattle.serial.specs.Cycle.Laws.{control-cycle, step-stopped}
 use Rattle.serial.specs.Access.{writeDevice}
 use Rattle.serial.specs.Sound.Laws.{sound-registers}
+use Rattle.serial.specs.Alone.{slotTotal}
 use Rattle.serial.specs.Pair.{wire, PairModel, pairCycle, later}
 use Rattle.serial.specs.Pair.Trace.{iterate}
 use Rattle.serial.specs.Pair.Top.{cut}
@@ -41,7 +42,7 @@ use Rattle.serial.specs.Pair.Project.{Serial, given, turns, turnPins, tu
 use Rattle.serial.specs.Pair.Project.Serial.{motorola, ti}
 use Rattle.serial.specs.Pair.Lead.{Lead, lead-steps, lead-write₁, lead-write₂, engine-on}
 use Rattle.serial.specs.Pair.Enable.{switchedOn, settings-on, control-on}
-use Rattle.serial.specs.Demand3.{Which, Step, play, plays, cyclesIn, controlOf, Stays, enables, Start, busy, completed, received, load, held, due, slotTotal, busyFor, Received, Exchanged, slaveOn, masterOn, Demand3}
+use Rattle.serial.specs.Demand3.{Which, Step, play, plays, cyclesIn, controlOf, Stays, enables, Start, busy, completed, received, load, held, due, busyFor, Received, Exchanged, slaveOn, masterOn, Demand3}
 use Rattle.serial.specs.Demand3.Which.{master, slave}
 use Rattle.serial.specs.declared.engine.Engine.{Engine}
 use Rattle.serial.specs.declared.lines.Lines.{Lines}
@@ -116,17 +117,18 @@ figure-of ti phase b h X L k (w ∷ ws) = omega arith
 more-slots : (n h : ℕ) → 6 ≤ h → n * h + 1 ≤ (n + 2) * h
 more-slots n h k = let e : (n + 2) * h ≡ n * h + 2 * h = add-mul n 2 h in omega arith
 
-figure-bound : {f : Format} → Serial f → (phase : Bool) (b h n : ℕ) → 6 ≤ h → busyFor f phase b h n ≤ slotTotal f phase b n * h
-figure-bound motorola false b h zero k = omega arith
-figure-bound motorola true b h zero k = omega arith
-figure-bound ti phase b h zero k = omega arith
-figure-bound motorola false b h (suc n) k =
+figure-bound : {f : Format} → Serial f → (phase p : Bool) (b h : ℕ) (o : Bool) (n : ℕ) → 6 ≤ h → busyFor f phase b h n ≤ slotTotal (given f phase p b h false o) n * h
+unfolding slotTotal
+figure-bound motorola false p b h o zero k = omega arith
+figure-bound motorola true p b h o zero k = omega arith
+figure-bound ti phase p b h o zero k = omega arith
+figure-bound motorola false p b h o (suc n) k =
     let e : suc n * (2 * b + 4) ≡ n * (2 * b + 4) + (2 * b + 2) + 2 = omega arith in
     subst (λ (z : ℕ). (n * (2 * b + 4) + (2 * b + 2)) * h + 1 ≤ z * h) (sym e) (more-slots (n * (2 * b + 4) + (2 * b + 2)) h k)
-figure-bound motorola true b h (suc n) k =
+figure-bound motorola true p b h o (suc n) k =
     let e : 2 * b * suc n + 4 ≡ 2 * b * suc n + 2 + 2 = omega arith in
     subst (λ (z : ℕ). (2 * b * suc n + 2) * h + 1 ≤ z * h) (sym e) (more-slots (2 * b * suc n + 2) h k)
-figure-bound ti phase b h (suc n) k = le-refl _
+figure-bound ti phase p b h o (suc n) k = le-refl _
 
 -- The state at the master's enabling -----------------------------------------------------------------------------------
 
@@ -216,8 +218,8 @@ module _ {f : Format} (S : Serial f) (phase p : Bool) (b h k : ℕ) (o : Bool) (
       record {
         at = until;
         figure = e ∙ ap (λ (s : Settings). busyFor (s .format) (s .phase) (s .bits) (s .half) (length (load master g))) (sym (P .master));
-        bound = subst (λ (s : Settings). until ≤ slotTotal (s .format) (s .phase) (s .bits) (length (load master g)) * s .half) (sym (P .master))
-            (subst (λ (x : ℕ). x ≤ slotTotal f phase b (length (load master g)) * h) (sym e) (figure-bound S phase b h (length (load master g)) slow));
+        bound = subst (λ (s : Settings). until ≤ slotTotal s (length (load master g)) * s .half) (sym (P .master))
+            (subst (λ (x : ℕ). x ≤ slotTotal (given f phase p b h false o) (length (load master g)) * h) (sym e) (figure-bound S phase p b h o (length (load master g)) slow));
         busy-before = λ i l. busy-of i true (stays-busy X W slow (load master g) q₁ (load slave g) q₂ i l);
         free = busy-of until false (gets-free X W slow (load master g) q₁ (load slave g) q₂);
         master-received = λ j. subst (λ (s : Settings). Received (s .bits) (until + j) master g) (sym (P .master)) (master-gets j);
