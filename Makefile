@@ -1,5 +1,5 @@
 # Thin front: each target does its own set-up.
-.PHONY: demo test compare fmt
+.PHONY: demo bench test compare fmt
 
 LIBRARY = target/staticlib/libserial.a
 
@@ -7,8 +7,12 @@ LIBRARY = target/staticlib/libserial.a
 demo: target/loopback
 	target/loopback
 
-target/loopback: examples/loopback.c include/pl022.h $(LIBRARY)
-	cc -std=c11 -Wall -Wextra -Werror -O2 -Iinclude -o $@ examples/loopback.c $(LIBRARY)
+# 300 million cycles, and accesses, timed.
+bench: target/bench
+	target/bench
+
+target/%: examples/%.c include/pl022.h $(LIBRARY)
+	cc -std=c11 -D_POSIX_C_SOURCE=199309L -Wall -Wextra -Werror -O2 -Iinclude -o $@ $< $(LIBRARY)
 
 $(LIBRARY):
 	rt staticlib serial

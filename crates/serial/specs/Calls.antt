@@ -16,7 +16,6 @@ use Rattle.serial.specs.Pair.{PairModel, later}
 use Rattle.serial.specs.Run.{after, outputs, idleCount, written, wrongLength, unsound, runRefusal}
 use Rattle.serial.specs.declared.calls.WordResult.{WordResult}
 use Rattle.serial.specs.declared.calls.CountResult.{CountResult}
-mod Decoded
 mod Numbers
 pub mod Laws
 
@@ -107,3 +106,5 @@ pub data Reached : List ℕ → Type 0 where
   write : {bytes bytes′ : List ℕ} {o v r : ℕ} → Reached bytes → WriteCall bytes o v r bytes′ → Reached bytes′
   run : {bytes ins outs bytes′ outs′ : List ℕ} {r : ℕ} → Reached bytes → RunCall bytes ins outs r bytes′ outs′ → Reached bytes′
   idle : {bytes ins outs bytes′ outs′ : List ℕ} {r : CountResult} → Reached bytes → IdleCall bytes ins outs r bytes′ outs′ → Reached bytes′
+  first : {one two one′ two′ : List ℕ} {n r : ℕ} → Reached one → Reached two → PairCall one two n r one′ two′ → Reached one′
+  second : {one two one′ two′ : List ℕ} {n r : ℕ} → Reached one → Reached two → PairCall one two n r one′ two′ → Reached two′

@@ -20,6 +20,7 @@ use Rattle.serial.specs.Lines.{byteOf}
 use Rattle.serial.specs.Slots.{widthOf}
 use Rattle.serial.specs.declared.lines.Pins.{Pins}
 use Rattle.serial.specs.Pair.{wire, PairModel, pairCycle, later}
+pub mod Records
 
 -- Steps ----------------------------------------------------------------------------------------------------------------
 

@@ -1,11 +1,12 @@
 -- No record that a call left is refused with 9: each call keeps a record sound, and so does every history of calls from reset on.
-use Prim.Native.Nat.{ℕ}
+use Prim.Native.Nat.{ℕ, zero, suc}
 use mathlib.Core.Path.{_≡_, refl}
-use mathlib.Core.Bool.{Bool, true, false, not}
+use mathlib.Core.Bool.{Bool, true, false, not, _||_}
 use mathlib.Core.List.{List, [], _∷_}
 use native.Mathlib.Omega.{arith}
 use lib.ListN.{length, take}
 use lib.Dec.{eqb}
+use Rattle.serial.specs.declared.lines.Pins.{Pins}
 use Rattle.registers.specs.Choose.{pick}
 use Rattle.registers.specs.Refusals.{done, refusalOf}
 use Rattle.serial.specs.Cycle.{DeviceModel, resetDevice, cycleOf}
@@ -14,11 +15,11 @@ use Rattle.serial.specs.Lines.{pinsOf}
 use Rattle.serial.specs.Sound.{soundDevice, deviceFits}
 use Rattle.serial.specs.Sound.Laws.{sound-reset, sound-read, sound-write, sound-cycle, fits-reset, fits-read, fits-write, fits-cycle}
 use Rattle.serial.specs.Record.{encodeOf, decodeOf, soundBytes}
-use Rattle.serial.specs.Record.Laws.{sound-encode, sound-decode}
-use Rattle.serial.specs.Calls.Decoded.{fits-decode}
+use Rattle.serial.specs.Record.Laws.{sound-encode, sound-decode, fits-decode}
 use Rattle.serial.specs.Calls.Numbers.{read-most, write-most}
 use Rattle.serial.specs.Run.{steppedOf, after, inputsFit, runRefusal}
-use Rattle.serial.specs.Calls.{leftBy, resetRefusal, recordRefusal, readCall, writeCall, idleCall, ResetCall, ReadCall, WriteCall, RunCall, IdleCall, Reached}
+use Rattle.serial.specs.Calls.{leftBy, resetRefusal, recordRefusal, readCall, writeCall, idleCall, ResetCall, ReadCall, WriteCall, RunCall, IdleCall, pairRefusal, pairAfter, PairCall, Reached}
+use Rattle.serial.specs.Pair.{wire, PairModel, pairCycle, later}
 use Rattle.serial.specs.declared.calls.WordResult.{WordResult}
 use Rattle.serial.specs.declared.calls.CountResult.{CountResult}
 
@@ -33,10 +34,18 @@ good-encode d g = sound-encode d (g .sound) (g .fits)
 good-decode : (b : List ℕ) → soundBytes b ≡ true → Good (decodeOf b)
 good-decode b s = record { sound = sound-decode b s; fits = fits-decode b s }
 
+good-cycle : (d : DeviceModel) (x : Pins) → Good d → Good (cycleOf d x)
+good-cycle d x g = record { sound = sound-cycle d x (g .sound); fits = fits-cycle d x (g .sound) (g .fits) }
+
 good-after : (d : DeviceModel) (ins : List ℕ) → Good d → Good (after d ins)
 unfolding after steppedOf
 good-after d [] g = g
-good-after d (p ∷ ps) g = good-after (cycleOf d (pinsOf p)) ps (record { sound = sound-cycle d (pinsOf p) (g .sound); fits = fits-cycle d (pinsOf p) (g .sound) (g .fits) })
+good-after d (p ∷ ps) g = good-after (cycleOf d (pinsOf p)) ps (good-cycle d (pinsOf p) g)
+
+good-later : (n : ℕ) (p : PairModel) → Good (p .first) → Good (p .second) → Good (later n p .first) × Good (later n p .second)
+unfolding pairCycle
+good-later zero p g k = (g, k)
+good-later (suc n) p g k = good-later n (pairCycle p) (good-cycle (p .first) (wire (p .second .lines)) g) (good-cycle (p .second) (wire (p .first .lines)) k)
 
 good-read : (d : DeviceModel) (o : ℕ) → Good d → Good (readDevice d o)
 good-read d o g = record { sound = sound-read d o (g .sound); fits = fits-read d o (g .fits) }
@@ -79,6 +88,18 @@ idle-keeps-sound bytes ins outs bytes′ outs′ r c s =
     let n = take (idleCall bytes ins outs) ins in
     rw (c .left) (left-sound (runRefusal bytes ins outs) (after (decodeOf bytes) n) bytes (good-after (decodeOf bytes) n (good-decode bytes s)) s)
 
+-- A pair run keeps both sound.
+module _ (one two one′ two′ : List ℕ) (n r : ℕ) (c : PairCall one two n r one′ two′) (s : soundBytes one ≡ true) (t : soundBytes two ≡ true) where
+  both-good : Good (pairAfter one two n .first) × Good (pairAfter one two n .second)
+  unfolding pairAfter
+  both-good = good-later n (record { first = decodeOf one; second = decodeOf two }) (good-decode one s) (good-decode two t)
+
+  pub pair-keeps-first : soundBytes one′ ≡ true
+  pair-keeps-first = rw (c .first) (left-sound (pairRefusal one two) (pairAfter one two n .first) one (both-good .0) s)
+
+  pub pair-keeps-second : soundBytes two′ ≡ true
+  pair-keeps-second = rw (c .second) (left-sound (pairRefusal one two) (pairAfter one two n .second) two (both-good .1) t)
+
 pub reached-sound : {bytes : List ℕ} → Reached bytes → soundBytes bytes ≡ true
 reached-sound (Reached.reset c) = reset-makes-sound _ _ c
 reached-sound (Reached.again h c) = reset-keeps-sound _ _ _ c (reached-sound h)
@@ -86,6 +107,8 @@ reached-sound (Reached.read h c) = read-keeps-sound _ _ _ _ c (reached-sound h)
 reached-sound (Reached.write h c) = write-keeps-sound _ _ _ _ _ c (reached-sound h)
 reached-sound (Reached.run h c) = run-keeps-sound _ _ _ _ _ _ c (reached-sound h)
 reached-sound (Reached.idle h c) = idle-keeps-sound _ _ _ _ _ _ c (reached-sound h)
+reached-sound (Reached.first h k c) = pair-keeps-first _ _ _ _ _ _ c (reached-sound h) (reached-sound k)
+reached-sound (Reached.second h k c) = pair-keeps-second _ _ _ _ _ _ c (reached-sound h) (reached-sound k)
 
 -- So no call refuses it with 9.
 
@@ -121,3 +144,13 @@ module _ (bytes : List ℕ) (h : Reached bytes) where
       go true true false z = omega arith
       go true false v z = omega arith
       go false u v z = omega arith
+
+-- Nor does a pair run of two such records.
+pub reached-pair : (one two : List ℕ) → Reached one → Reached two → pairRefusal one two ≡ 9 → ⊥
+unfolding pairRefusal
+reached-pair one two h k e = go (eqb (length one) 128) (eqb (length two) 128) (rw (reached-sound h, reached-sound k) at e)
+  where
+    go : (t u : Bool) → _≡_ {A = ℕ} (pick (not t || not u) 10 0) 9 → ⊥
+    go true true z = omega arith
+    go true false z = omega arith
+    go false u z = omega arith
