@@ -98,7 +98,7 @@ pub record PairCall (one two : List ℕ) (n r : ℕ) (one′ two′ : List ℕ) 
 
 -- Histories ------------------------------------------------------------------------------------------------------------
 
--- A record reached from reset: a reset that is done made it, and then every call, done or refused, took it as the one before had left it.
+-- A record reached from reset: a reset that is done made it, and then every call, done or refused, took it as the one before had left it; the partner of a pair run may hold anything.
 pub data Reached : List ℕ → Type 0 where
   reset : {bytes bytes′ : List ℕ} → ResetCall bytes done bytes′ → Reached bytes′
   again : {bytes bytes′ : List ℕ} {r : ℕ} → Reached bytes → ResetCall bytes r bytes′ → Reached bytes′
@@ -106,5 +106,5 @@ pub data Reached : List ℕ → Type 0 where
   write : {bytes bytes′ : List ℕ} {o v r : ℕ} → Reached bytes → WriteCall bytes o v r bytes′ → Reached bytes′
   run : {bytes ins outs bytes′ outs′ : List ℕ} {r : ℕ} → Reached bytes → RunCall bytes ins outs r bytes′ outs′ → Reached bytes′
   idle : {bytes ins outs bytes′ outs′ : List ℕ} {r : CountResult} → Reached bytes → IdleCall bytes ins outs r bytes′ outs′ → Reached bytes′
-  first : {one two one′ two′ : List ℕ} {n r : ℕ} → Reached one → Reached two → PairCall one two n r one′ two′ → Reached one′
-  second : {one two one′ two′ : List ℕ} {n r : ℕ} → Reached one → Reached two → PairCall one two n r one′ two′ → Reached two′
+  first : {one two one′ two′ : List ℕ} {n r : ℕ} → Reached one → PairCall one two n r one′ two′ → Reached one′
+  second : {one two one′ two′ : List ℕ} {n r : ℕ} → Reached two → PairCall one two n r one′ two′ → Reached two′

@@ -24,14 +24,14 @@ use Rattle.serial.specs.declared.calls.WordResult.{WordResult}
 use Rattle.serial.specs.declared.calls.CountResult.{CountResult}
 
 -- What every device keeps: it is sound, and its fields fit their bytes.
-record Good (d : DeviceModel) : Type 0 where
-  sound : soundDevice d ≡ true
-  fits : deviceFits d ≡ true
+pub record Good (d : DeviceModel) : Type 0 where
+  pub sound : soundDevice d ≡ true
+  pub fits : deviceFits d ≡ true
 
 good-encode : (d : DeviceModel) → Good d → soundBytes (encodeOf d) ≡ true
 good-encode d g = sound-encode d (g .sound) (g .fits)
 
-good-decode : (b : List ℕ) → soundBytes b ≡ true → Good (decodeOf b)
+pub good-decode : (b : List ℕ) → soundBytes b ≡ true → Good (decodeOf b)
 good-decode b s = record { sound = sound-decode b s; fits = fits-decode b s }
 
 good-cycle : (d : DeviceModel) (x : Pins) → Good d → Good (cycleOf d x)
@@ -42,7 +42,7 @@ unfolding after steppedOf
 good-after d [] g = g
 good-after d (p ∷ ps) g = good-after (cycleOf d (pinsOf p)) ps (good-cycle d (pinsOf p) g)
 
-good-later : (n : ℕ) (p : PairModel) → Good (p .first) → Good (p .second) → Good (later n p .first) × Good (later n p .second)
+pub good-later : (n : ℕ) (p : PairModel) → Good (p .first) → Good (p .second) → Good (later n p .first) × Good (later n p .second)
 unfolding pairCycle
 good-later zero p g k = (g, k)
 good-later (suc n) p g k = good-later n (pairCycle p) (good-cycle (p .first) (wire (p .second .lines)) g) (good-cycle (p .second) (wire (p .first .lines)) k)
@@ -88,17 +88,34 @@ idle-keeps-sound bytes ins outs bytes′ outs′ r c s =
     let n = take (idleCall bytes ins outs) ins in
     rw (c .left) (left-sound (runRefusal bytes ins outs) (after (decodeOf bytes) n) bytes (good-after (decodeOf bytes) n (good-decode bytes s)) s)
 
--- A pair run keeps both sound.
-module _ (one two one′ two′ : List ℕ) (n r : ℕ) (c : PairCall one two n r one′ two′) (s : soundBytes one ≡ true) (t : soundBytes two ≡ true) where
-  both-good : Good (pairAfter one two n .first) × Good (pairAfter one two n .second)
+-- A pair run is refused where either record is not sound.
+pair-refused : (one two : List ℕ) → (not (soundBytes one) || not (soundBytes two)) ≡ true → eqb (pairRefusal one two) done ≡ false
+unfolding pairRefusal
+pair-refused one two u = rw u (go (not (eqb (length one) 128) || not (eqb (length two) 128)))
+  where
+    go : (t : Bool) → eqb (pick t 10 9) 0 ≡ false
+    go true = refl
+    go false = refl
+
+-- So it keeps a sound record sound, whatever the other one holds.
+module _ (one two one′ two′ : List ℕ) (n r : ℕ) (c : PairCall one two n r one′ two′) where
+  both-good : soundBytes one ≡ true → soundBytes two ≡ true → Good (pairAfter one two n .first) × Good (pairAfter one two n .second)
   unfolding pairAfter
-  both-good = good-later n (record { first = decodeOf one; second = decodeOf two }) (good-decode one s) (good-decode two t)
+  both-good s t = good-later n (record { first = decodeOf one; second = decodeOf two }) (good-decode one s) (good-decode two t)
 
-  pub pair-keeps-first : soundBytes one′ ≡ true
-  pair-keeps-first = rw (c .first) (left-sound (pairRefusal one two) (pairAfter one two n .first) one (both-good .0) s)
+  pub pair-keeps-first : soundBytes one ≡ true → soundBytes one′ ≡ true
+  pair-keeps-first s = rw (c .first) (go (soundBytes two) refl)
+    where
+      go : (u : Bool) → soundBytes two ≡ u → soundBytes (leftBy (pairRefusal one two) (pairAfter one two n .first) one) ≡ true
+      go true t = left-sound (pairRefusal one two) (pairAfter one two n .first) one (both-good s t .0) s
+      go false t = rw (pair-refused one two (rw (s, t))) s
 
-  pub pair-keeps-second : soundBytes two′ ≡ true
-  pair-keeps-second = rw (c .second) (left-sound (pairRefusal one two) (pairAfter one two n .second) two (both-good .1) t)
+  pub pair-keeps-second : soundBytes two ≡ true → soundBytes two′ ≡ true
+  pair-keeps-second t = rw (c .second) (go (soundBytes one) refl)
+    where
+      go : (u : Bool) → soundBytes one ≡ u → soundBytes (leftBy (pairRefusal one two) (pairAfter one two n .second) two) ≡ true
+      go true s = left-sound (pairRefusal one two) (pairAfter one two n .second) two (both-good s t .1) t
+      go false s = rw (pair-refused one two (rw s)) t
 
 pub reached-sound : {bytes : List ℕ} → Reached bytes → soundBytes bytes ≡ true
 reached-sound (Reached.reset c) = reset-makes-sound _ _ c
@@ -107,8 +124,8 @@ reached-sound (Reached.read h c) = read-keeps-sound _ _ _ _ c (reached-sound h)
 reached-sound (Reached.write h c) = write-keeps-sound _ _ _ _ _ c (reached-sound h)
 reached-sound (Reached.run h c) = run-keeps-sound _ _ _ _ _ _ c (reached-sound h)
 reached-sound (Reached.idle h c) = idle-keeps-sound _ _ _ _ _ _ c (reached-sound h)
-reached-sound (Reached.first h k c) = pair-keeps-first _ _ _ _ _ _ c (reached-sound h) (reached-sound k)
-reached-sound (Reached.second h k c) = pair-keeps-second _ _ _ _ _ _ c (reached-sound h) (reached-sound k)
+reached-sound (Reached.first h c) = pair-keeps-first _ _ _ _ _ _ c (reached-sound h)
+reached-sound (Reached.second h c) = pair-keeps-second _ _ _ _ _ _ c (reached-sound h)
 
 -- So no call refuses it with 9.
 

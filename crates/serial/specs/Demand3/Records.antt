@@ -4,7 +4,7 @@ use mathlib.Core.Path.{_≡_, refl, sym, ap, ap₂, _∙_, subst}
 use mathlib.Core.Bool.{Bool, true, false, not, _&&_, _||_, true≢false}
 use mathlib.Core.List.{List, [], _∷_, _++_, map}
 use lib.Dec.{eqb}
-use lib.ListN.{length}
+use lib.ListN.{length, replicate}
 use borrow.Author.Tests.{eq-eqb}
 use Rattle.registers.specs.Choose.{pick}
 use Rattle.registers.specs.Choose.Laws.{pick-no}
@@ -19,16 +19,20 @@ use Rattle.serial.specs.Engine.{cleared}
 use Rattle.serial.specs.Cycle.{DeviceModel, cycleOf}
 use Rattle.serial.specs.Access.{readAnswerOf, readDevice, writeRefusalOf, writeDevice, engineAfter}
 use Rattle.serial.specs.Sound.{soundDevice, deviceFits}
-use Rattle.serial.specs.Sound.Laws.{sound-cycle, fits-cycle, sound-read, fits-read, sound-write, fits-write}
+use Rattle.serial.specs.Sound.Laws.{sound-read, fits-read, sound-write, fits-write}
 use Rattle.serial.specs.Record.{encodeOf, decodeOf, soundBytes}
-use Rattle.serial.specs.Record.Laws.{length-sound, decode-encode, sound-encode, sound-decode, fits-decode}
+use Rattle.serial.specs.Record.Laws.{length-sound, decode-encode, decode-injective, sound-encode, sound-decode, fits-decode}
 use Rattle.serial.specs.Pair.{wire, PairModel, pairCycle, later}
 use Rattle.serial.specs.Pair.Claim.{demand3}
 use Rattle.serial.specs.Alone.{recording}
+use Rattle.serial.specs.Alone.Enabled.{enabling-told}
+use Rattle.serial.specs.Slots.{widthOf}
+use Rattle.registers.specs.declared.settings.Settings.{Settings}
 use Rattle.serial.specs.Lines.{pinsOf, byteOf}
 use Rattle.serial.specs.Run.{steppedOf, outputs}
+use Rattle.serial.specs.Calls.Laws.{Good, good-decode, good-later}
 use Rattle.serial.specs.Calls.{leftBy, recordRefusal, readCall, writeCall, pairRefusal, pairAfter}
-use Rattle.serial.specs.Demand3.{Which, Step, play, plays, cyclesIn, Stays, Start, Exchanged, slaveOn, masterOn, enables}
+use Rattle.serial.specs.Demand3.{Which, Step, play, plays, cyclesIn, Stays, Start, Exchanged, slaveOn, masterOn, enables, cutTo, Enabling, WholeLoad}
 use Rattle.serial.specs.declared.engine.Engine.{Engine}
 use Rattle.serial.specs.Demand3.Which.{master, slave}
 use Rattle.serial.specs.Demand3.Step.{read, write}
@@ -41,13 +45,17 @@ pub record Records : Type 0 where
 abbrev pub devicesOf : Records → PairModel
 devicesOf r = record { first = decodeOf (r .one); second = decodeOf (r .two) }
 
+-- What a pair run of n cycles leaves.
+abbrev pub runBytes : ℕ → Records → Records
+runBytes n r =
+    record {
+      one = leftBy (pairRefusal (r .one) (r .two)) (pairAfter (r .one) (r .two) n .first) (r .one);
+      two = leftBy (pairRefusal (r .one) (r .two)) (pairAfter (r .one) (r .two) n .second) (r .two);
+    }
+
 -- What each call leaves.
 abbrev pub playBytes : Step → Records → Records
-playBytes Step.cycle r =
-    record {
-      one = leftBy (pairRefusal (r .one) (r .two)) (pairAfter (r .one) (r .two) 1 .first) (r .one);
-      two = leftBy (pairRefusal (r .one) (r .two)) (pairAfter (r .one) (r .two) 1 .second) (r .two);
-    }
+playBytes Step.cycle r = runBytes 1 r
 playBytes (read master o) r = record { one = leftBy (refusalOf (readCall (r .one) o)) (readDevice (decodeOf (r .one)) o) (r .one); two = r .two }
 playBytes (read slave o) r = record { one = r .one; two = leftBy (refusalOf (readCall (r .two) o)) (readDevice (decodeOf (r .two)) o) (r .two) }
 playBytes (write master o v) r = record { one = leftBy (writeCall (r .one) o v) (writeDevice (decodeOf (r .one)) o v) (r .one); two = r .two }
@@ -129,20 +137,18 @@ record Played (r : Records) (p : PairModel) : Type 0 where
   sound : SoundRecords r
   is : devicesOf r ≡ p
 
-cycle-played : (r : Records) → SoundRecords r → Played (playBytes Step.cycle r) (pairCycle (devicesOf r))
-unfolding pairAfter pairCycle
-cycle-played r s =
-    let d = decodeOf (r .one) in
-    let e = decodeOf (r .two) in
-    let x = wire (e .lines) in
-    let y = wire (d .lines) in
+run-played : (n : ℕ) (r : Records) → SoundRecords r → Played (runBytes n r) (later n (devicesOf r))
+unfolding pairAfter
+run-played n r s =
+    let p = devicesOf r in
+    let g = good-later n p (good-decode (r .one) (s .one)) (good-decode (r .two) (s .two)) in
     let z = pair-done (r .one) (r .two) (s .one) (s .two) in
-    let l = left-is (pairRefusal (r .one) (r .two)) (cycleOf d x) (r .one) (s .one) (sound-cycle d x (sound-decode _ (s .one))) (fits-cycle d x (sound-decode _ (s .one)) (fits-decode _ (s .one))) (λ k. absurd (true≢false (ap (λ (n : ℕ). eqb n 0) (sym z) ∙ k))) in
-    let m = left-is (pairRefusal (r .one) (r .two)) (cycleOf e y) (r .two) (s .two) (sound-cycle e y (sound-decode _ (s .two))) (fits-cycle e y (sound-decode _ (s .two)) (fits-decode _ (s .two))) (λ k. absurd (true≢false (ap (λ (n : ℕ). eqb n 0) (sym z) ∙ k))) in
+    let l = left-is (pairRefusal (r .one) (r .two)) (later n p .first) (r .one) (s .one) (g .0 .sound) (g .0 .fits) (λ k. absurd (true≢false (ap (λ (i : ℕ). eqb i 0) (sym z) ∙ k))) in
+    let m = left-is (pairRefusal (r .one) (r .two)) (later n p .second) (r .two) (s .two) (g .1 .sound) (g .1 .fits) (λ k. absurd (true≢false (ap (λ (i : ℕ). eqb i 0) (sym z) ∙ k))) in
     record { sound = record { one = l .sound; two = m .sound }; is = ap₂ (λ (a b : DeviceModel). record { first = a; second = b }) (l .is) (m .is) }
 
 step-played : (x : Step) (r : Records) → SoundRecords r → Played (playBytes x r) (play x (devicesOf r))
-step-played Step.cycle r s = cycle-played r s
+step-played Step.cycle r s = run-played 1 r s
 step-played (read master o) r s =
     let l = read-left (r .one) o (s .one) in
     record { sound = record { one = l .sound; two = s .two }; is = ap (λ (a : DeviceModel). record { first = a; second = decodeOf (r .two) }) (l .is) }
@@ -178,14 +184,59 @@ steps pre mid p = pre ++ (enables slave (plays pre p) ∷ (mid ++ (enables maste
 steps-lead : (pre mid : List Step) (p : PairModel) → plays (steps pre mid p) p ≡ masterOn pre mid p
 steps-lead pre mid p = plays-append pre _ p ∙ plays-append mid _ (slaveOn pre p)
 
--- From any two sound records, set up as demand 3 has it, the records that the steps leave hold a pair that exchanges its words.
+-- A pair run of n cycles leaves the bytes that n runs of one cycle leave.
+plays-later : (n : ℕ) (p : PairModel) → plays (replicate n Step.cycle) p ≡ later n p
+plays-later zero p = refl
+plays-later (suc n) p = plays-later n (pairCycle p)
+
+pub run-is-cycles : (n : ℕ) (r : Records) → SoundRecords r → runBytes n r ≡ playsBytes (replicate n Step.cycle) r
+run-is-cycles n r s =
+    let one-run = run-played n r s in
+    let many = plays-sound (replicate n Step.cycle) r s in
+    let same = one-run .is ∙ sym (plays-devices (replicate n Step.cycle) r s ∙ plays-later n (devicesOf r)) in
+    ap₂ (λ (a b : List ℕ). record { one = a; two = b })
+    (decode-injective _ _ (one-run .sound .one) (many .one) (ap (λ (q : PairModel). q .first) same))
+    (decode-injective _ _ (one-run .sound .two) (many .two) (ap (λ (q : PairModel). q .second) same))
+
+-- Two records whose devices exchange their words as demand 3 has it, pair run by pair run on the records themselves.
+pub record ExchangedRecords (r : Records) : Type 0 where
+  pub sound : SoundRecords r
+  pub exchanged : Exchanged (devicesOf r)
+  pub after : (n : ℕ) → devicesOf (runBytes n r) ≡ later n (devicesOf r)
+
+-- From any two sound records, set up as demand 3 has it, the steps leave such records.
 pub demand3-records : (r : Records) (pre mid : List Step) → SoundRecords r → Start (devicesOf r) → 4 ≤ cyclesIn pre → Stays pre (devicesOf r) → Stays mid (slaveOn pre (devicesOf r))
-    → Exchanged (devicesOf (playsBytes (steps pre mid (devicesOf r)) r))
+    → ExchangedRecords (playsBytes (steps pre mid (devicesOf r)) r)
 demand3-records r pre mid s st four z z′ =
-    subst Exchanged (sym (plays-devices (steps pre mid (devicesOf r)) r s ∙ steps-lead pre mid (devicesOf r))) (demand3 (devicesOf r) pre mid st four z z′)
+    let left = plays-sound (steps pre mid (devicesOf r)) r s in
+    record {
+      sound = left;
+      exchanged = subst Exchanged (sym (plays-devices (steps pre mid (devicesOf r)) r s ∙ steps-lead pre mid (devicesOf r))) (demand3 (devicesOf r) pre mid st four z z′);
+      after = λ n. run-played n (playsBytes (steps pre mid (devicesOf r)) r) left .is;
+    }
 
 -- The output bytes of a run are the recording of the last sentence.
 pub outputs-recording : (d : DeviceModel) (ins : List ℕ) → outputs d ins ≡ map byteOf (recording d (map pinsOf ins))
 unfolding outputs steppedOf
 outputs-recording d [] = refl
 outputs-recording d (p ∷ ps) = ap (λ (t : List ℕ). byteOf (cycleOf d (pinsOf p) .lines) ∷ t) (outputs-recording (cycleOf d (pinsOf p)) ps)
+
+-- The last sentence over records: the bytes that a run gives after the write that enabled a master tell its load.
+abbrev pub writtenBytes : List ℕ → ℕ → ℕ → List ℕ
+writtenBytes b o v = leftBy (writeCall b o v) (writeDevice (decodeOf b) o v) b
+
+pub last-sentence-records : (s : Settings) (b b′ : List ℕ) (o v o′ v′ : ℕ) → soundBytes b ≡ true → soundBytes b′ ≡ true
+    → Enabling s (decodeOf b) o v → Enabling s (decodeOf b′) o′ v′ → (ins ins′ : List ℕ)
+    → WholeLoad s (decodeOf (writtenBytes b o v)) (map pinsOf ins) → WholeLoad s (decodeOf (writtenBytes b′ o′ v′)) (map pinsOf ins′)
+    → outputs (decodeOf (writtenBytes b o v)) ins ≡ outputs (decodeOf (writtenBytes b′ o′ v′)) ins′
+    → map (cutTo (widthOf s)) (decodeOf (writtenBytes b o v) .registers .tx) ≡ map (cutTo (widthOf s)) (decodeOf (writtenBytes b′ o′ v′) .registers .tx)
+last-sentence-records s b b′ o v o′ v′ sb sb′ e e′ ins ins′ w w′ same =
+    let d = write-left b o v sb .is in
+    let d′ = write-left b′ o′ v′ sb′ .is in
+    let tell = enabling-told s (decodeOf b) (decodeOf b′) o v o′ v′ e e′ (map pinsOf ins) (map pinsOf ins′) in
+    let whole = subst (λ (x : DeviceModel). WholeLoad s x (map pinsOf ins)) d w in
+    let whole′ = subst (λ (x : DeviceModel). WholeLoad s x (map pinsOf ins′)) d′ w′ in
+    let bytes = sym (ap (λ (x : DeviceModel). outputs x ins) d ∙ outputs-recording (writeDevice (decodeOf b) o v) ins) in
+    let bytes′ = ap (λ (x : DeviceModel). outputs x ins′) d′ ∙ outputs-recording (writeDevice (decodeOf b′) o′ v′) ins′ in
+    let cut : DeviceModel → List ℕ = λ (x : DeviceModel). map (cutTo (widthOf s)) (x .registers .tx) in
+    ap cut d ∙ (tell whole whole′ (bytes ∙ (same ∙ bytes′)) ∙ sym (ap cut d′))
