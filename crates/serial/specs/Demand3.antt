@@ -133,7 +133,7 @@ abbrev pub due : ℕ → Which → PairModel → List ℕ
 due b master g = map (cutTo b) (take (length (load master g)) (load slave g ++ replicate (length (load master g)) 0))
 due b slave g = map (cutTo b) (load master g)
 
--- The cycles from the master's enabling to its first BSY 0.
+-- The cycles from a master's enabling to its first BSY 0; for a master alone, of each format, Alone/Free.antt proves it.
 abbrev pub busyFor : Format → Bool → ℕ → ℕ → ℕ → ℕ
 busyFor f phase b h zero = 0
 busyFor Motorola false b h (suc n) = (n * (2 * b + 4) + (2 * b + 2)) * h + 1

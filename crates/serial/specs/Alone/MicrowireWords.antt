@@ -2,10 +2,11 @@
 use Prim.Native.Nat.{ℕ, zero, suc, _+_, _*_, _/_, _%_, _<_}
 use mathlib.Core.Path.{_≡_, refl, sym, ap}
 use mathlib.Core.Bool.{Bool, true, false, and-false}
-use mathlib.Core.List.{List, [], _∷_}
+use mathlib.Core.List.{List, [], _∷_, _++_}
 use native.Mathlib.Omega.{arith}
 use native.Mathlib.Numerals.{add-one}
 use lib.Dec.{leb}
+use lib.ListN.{length, length-append}
 use borrow.Author.Tests.{eq-eqb, ne-eqb, lt-ltb, le-ltb, le-leb, lt-leb}
 use Rattle.registers.specs.declared.settings.Format.the-variants.{Microwire}
 use Rattle.registers.specs.declared.settings.Settings.{Settings}
@@ -17,8 +18,9 @@ use Rattle.serial.specs.Master.{chainStep}
 use Rattle.serial.specs.Pair.Ends.{waits-cons}
 use Rattle.serial.specs.Pair.Moves.{sending, shifted}
 use Rattle.serial.specs.Alone.{low, idle, bitLines, quiet, quiets, chainM, framesM}
+use Rattle.serial.specs.Alone.Told.{length-bits, length-quiets}
 use Rattle.serial.specs.Alone.Solo.{Solo, bareStep}
-use Rattle.serial.specs.Alone.Slot.{fixed, solo, on, restAt, Slot, Draws, done, draw, draws-then, draws-end, draws-same, slot-on, slot-start, slot-release, slot-pause, capture-move, word-run}
+use Rattle.serial.specs.Alone.Slot.{fixed, solo, on, restAt, Slot, Draws, done, draw, draws-then, draws-end, draws-same, slot-on, slot-start, slot-release, slot-pause, capture-move, word-run, Until}
 use Rattle.serial.specs.declared.engine.Shift.{Shift}
 use Rattle.serial.specs.declared.slots.Levels.{Levels}
 use Rattle.serial.specs.declared.slots.Event.the-variants.{BeginDrive, Drive, Capture, Chain, Quiet, Release, Pause}
@@ -193,3 +195,33 @@ module _ (s : Settings) (phase : Bool) where
 
   pub framesM-draws : (x : Shift) (w : ℕ) (ws : List ℕ) → Draws S (framesM S (w ∷ ws)) (solo (w ∷ ws) (restAt x)) (solo [] (restAt clearShift))
   framesM-draws x w ws = chainM-draws (solo (w ∷ ws) (restAt x)) w ws (begin-slot x w ws)
+
+  -- Up to the slot in which the last frame is over.
+  chainM-until : (x : Solo) (w : ℕ) (ws : List ℕ) → Slot S x (low S false (bitOf 8 w 0)) (on 1 0 (bitOf 8 w 0) w ws) → Until S (suc (length ws) * (2 * b + 18) + 1) x
+  unfolding eventOf
+  chainM-until x w [] k =
+      record {
+        drawn = bitLines (low S false) (low S true) 8 w 0 8 ++ (quiets (b + 1) ++ (quiet false ∷ []));
+        count = omega (arith, length-append (bitLines (low S false) (low S true) 8 w 0 8) (quiets (b + 1) ++ (quiet false ∷ [])), length-append (quiets (b + 1)) (quiet false ∷ []), length-bits (low S false) (low S true) 8 w 0 8, length-quiets (b + 1));
+        slot = 2 * b + 19;
+        captured = b;
+        level = false;
+        word = w;
+        draws = draws-then S (control-draws w [] x k) (draws-then S (wait-draws w [] (bitOf 8 w 7)) (draw (end-slot w) done));
+        over = microwire-release b (2 * b + 19) refl;
+      }
+  chainM-until x w (u ∷ ws) k =
+      let r = chainM-until (on (2 * b + 18) b false w (u ∷ ws)) u ws (chain-slot w u ws) in
+      record {
+        drawn = bitLines (low S false) (low S true) 8 w 0 8 ++ (quiets (b + 1) ++ r .drawn);
+        count = omega (arith, length-append (bitLines (low S false) (low S true) 8 w 0 8) (quiets (b + 1) ++ r .drawn), length-append (quiets (b + 1)) (r .drawn), length-bits (low S false) (low S true) 8 w 0 8, length-quiets (b + 1), r .count);
+        slot = r .slot;
+        captured = r .captured;
+        level = r .level;
+        word = r .word;
+        draws = draws-then S (control-draws w (u ∷ ws) x k) (draws-then S (wait-draws w (u ∷ ws) (bitOf 8 w 7)) (r .draws));
+        over = r .over;
+      }
+
+  pub framesM-until : (x : Shift) (w : ℕ) (ws : List ℕ) → Until S (suc (length ws) * (2 * b + 18) + 1) (solo (w ∷ ws) (restAt x))
+  framesM-until x w ws = chainM-until (solo (w ∷ ws) (restAt x)) w ws (begin-slot x w ws)

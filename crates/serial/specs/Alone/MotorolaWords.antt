@@ -1,9 +1,10 @@
 -- A Motorola master alone draws its load, with SPH 0 and with SPH 1.
-use Prim.Native.Nat.{ℕ, _+_, _-_, _*_, _<_}
+use Prim.Native.Nat.{ℕ, suc, _+_, _-_, _*_, _<_}
 use mathlib.Core.Path.{_≡_, refl, ap}
 use mathlib.Core.Bool.{Bool, true, false, not}
-use mathlib.Core.List.{List, [], _∷_}
+use mathlib.Core.List.{List, [], _∷_, _++_}
 use native.Mathlib.Omega.{arith}
+use lib.ListN.{length, length-append}
 use Rattle.registers.specs.declared.settings.Format.the-variants.{Motorola}
 use Rattle.registers.specs.declared.settings.Settings.{Settings}
 use Rattle.serial.specs.Bits.{bitOf}
@@ -15,8 +16,9 @@ use Rattle.serial.specs.Pair.Ends.{waits-cons}
 use Rattle.serial.specs.Pair.Moves.{sending, shifted}
 use Rattle.serial.specs.Pair.Events.{motorola-drive, motorola-capture, motorola-last, motorola-release, lowAt, levels-drive, levels-capture, levels-last, levels-first}
 use Rattle.serial.specs.Alone.{low, idle, bitLines, frame0, frames0, chain1, frames1}
+use Rattle.serial.specs.Alone.Told.{length-bits, frame0-length}
 use Rattle.serial.specs.Alone.Solo.{Solo, bareStep}
-use Rattle.serial.specs.Alone.Slot.{fixed, solo, on, restAt, Slot, Draws, done, draw, draws-then, slot-on, slot-start, slot-release, slot-pause, capture-move, word-run}
+use Rattle.serial.specs.Alone.Slot.{fixed, solo, on, restAt, Slot, Draws, done, draw, draws-then, slot-on, slot-start, slot-release, slot-pause, capture-move, word-run, Until}
 use Rattle.serial.specs.declared.engine.Shift.{Shift}
 use Rattle.serial.specs.declared.slots.Levels.{Levels}
 use Rattle.serial.specs.declared.slots.Event.the-variants.{Begin, Drive, Capture, Chain, Pause}
@@ -128,3 +130,77 @@ module _ (s : Settings) where
   pub frames1-draws : 1 < s .bits → (x : Shift) (w : ℕ) (ws : List ℕ) → Draws (S s true) (frames1 (S s true) (w ∷ ws)) (solo (w ∷ ws) (restAt x)) (solo [] (restAt clearShift))
   frames1-draws l x w ws =
       draw (begin-slot s true x w ws) (chain1-draws l (on 1 0 false w ws) w ws (drive-slot s true w ws 0 false (omega arith)))
+
+-- Up to the slot in which the last frame is over -------------------------------------------------------------------------
+
+module _ (s : Settings) where
+  abbrev t : ℕ
+  t = s .bits
+
+  pub frames0-until : 1 < t → (x : Shift) (w : ℕ) (ws : List ℕ) → Until (S s false) (length ws * (2 * t + 4) + (2 * t + 2)) (solo (w ∷ ws) (restAt x))
+  unfolding eventOf
+  frames0-until l x w [] =
+      record {
+        drawn = low (S s false) false false ∷ (bitLines (low (S s false) false) (low (S s false) true) t w 0 t ++ (low (S s false) false (bitOf t w (t - 1)) ∷ []));
+        count = omega (arith, length-append (bitLines (low (S s false) false) (low (S s false) true) t w 0 t) (low (S s false) false (bitOf t w (t - 1)) ∷ []), length-bits (low (S s false) false) (low (S s false) true) t w 0 t);
+        slot = 2 * t + 2;
+        captured = t;
+        level = bitOf t w (t - 1);
+        word = w;
+        draws = draw (begin-slot s false x w [])
+            (draws-then (S s false) (word-draws s false w [] l (on 1 0 false w []) (drive-slot s false w [] 0 false (omega arith)))
+            (draw (hold-slot0 s w [] (bitOf t w (t - 1))) done));
+        over = motorola-release false t (2 * t + 2) refl;
+      }
+  frames0-until l x w (u ∷ ws) =
+      let r = frames0-until l clearShift u ws in
+      record {
+        drawn = frame0 (S s false) w ++ r .drawn;
+        count = omega (arith, length-append (frame0 (S s false) w) (r .drawn), frame0-length (S s false) w, r .count);
+        slot = r .slot;
+        captured = r .captured;
+        level = r .level;
+        word = r .word;
+        draws = draws-then (S s false) (frame0-draws s l x w (u ∷ ws)) (r .draws);
+        over = r .over;
+      }
+
+  chain1-until : 1 < t → (x : Solo) (w : ℕ) (ws : List ℕ) → Slot (S s true) x (low (S s true) true (bitOf t w 0)) (on 2 0 (bitOf t w 0) w ws) → Until (S s true) (2 * t * suc (length ws) + 1) x
+  unfolding eventOf
+  chain1-until l x w [] k =
+      record {
+        drawn = bitLines (low (S s true) true) (low (S s true) false) t w 0 t ++ (low (S s true) false (bitOf t w (t - 1)) ∷ []);
+        count = omega (arith, length-append (bitLines (low (S s true) true) (low (S s true) false) t w 0 t) (low (S s true) false (bitOf t w (t - 1)) ∷ []), length-bits (low (S s true) true) (low (S s true) false) t w 0 t);
+        slot = 2 * t + 2;
+        captured = t;
+        level = bitOf t w (t - 1);
+        word = w;
+        draws = draws-then (S s true) (word-draws s true w [] l x k) (draw (hold-slot1 s w (bitOf t w (t - 1))) done);
+        over = motorola-release true t (2 * t + 2) refl;
+      }
+  chain1-until l x w (u ∷ ws) k =
+      let r = chain1-until l (on (2 * t + 1) t (bitOf t w (t - 1)) w (u ∷ ws)) u ws (chain-slot s (omega arith) w (bitOf t w (t - 1)) u ws) in
+      record {
+        drawn = bitLines (low (S s true) true) (low (S s true) false) t w 0 t ++ r .drawn;
+        count = omega (arith, length-append (bitLines (low (S s true) true) (low (S s true) false) t w 0 t) (r .drawn), length-bits (low (S s true) true) (low (S s true) false) t w 0 t, r .count);
+        slot = r .slot;
+        captured = r .captured;
+        level = r .level;
+        word = r .word;
+        draws = draws-then (S s true) (word-draws s true w (u ∷ ws) l x k) (r .draws);
+        over = r .over;
+      }
+
+  pub frames1-until : 1 < t → (x : Shift) (w : ℕ) (ws : List ℕ) → Until (S s true) (2 * t * suc (length ws) + 2) (solo (w ∷ ws) (restAt x))
+  frames1-until l x w ws =
+      let r = chain1-until l (on 1 0 false w ws) w ws (drive-slot s true w ws 0 false (omega arith)) in
+      record {
+        drawn = low (S s true) false false ∷ r .drawn;
+        count = omega (arith, r .count);
+        slot = r .slot;
+        captured = r .captured;
+        level = r .level;
+        word = r .word;
+        draws = draw (begin-slot s true x w ws) (r .draws);
+        over = r .over;
+      }

@@ -48,7 +48,7 @@ draws-on s Ti phase r l x w ws = framesTi-draws s phase l x w ws
 draws-on s Microwire phase r l x w ws = framesM-draws s phase x w ws
 draws-on s Reserved phase r l x w ws = absurd (r refl)
 
-fixed-own : (s : Settings) → s .slave ≡ false → s .enabled ≡ true → fixed (s .format) (s .phase) s ≡ s
+pub fixed-own : (s : Settings) → s .slave ≡ false → s .enabled ≡ true → fixed (s .format) (s .phase) s ≡ s
 fixed-own s m e =
     ap₂ (λ (u v : Bool). record { format = s .format; phase = s .phase; polarity = s .polarity; bits = s .bits; half = s .half; slave = u; silent = s .silent; loopback = s .loopback; enabled = v })
     (sym m) (sym e)
@@ -73,7 +73,7 @@ load-goes s d k x w ws =
     (fixed-own s (k .master) (k .enabled)) (draws-on s (s .format) (s .phase) (k .serves) (omega (arith, k .least)) x w ws))
 
 -- a fresh master's engine
-fresh-engine : (s : Settings) (d : DeviceModel) → Fresh s d → bare (d .engine) ≡ restAt (bareShift (d .engine .shift))
+pub fresh-engine : (s : Settings) (d : DeviceModel) → Fresh s d → bare (d .engine) ≡ restAt (bareShift (d .engine .shift))
 fresh-engine s d k =
     let x = bareShift (d .engine .shift) in
     ap (λ (n : ℕ). record { slot = slots n; gone = d .engine .gone; frame = d .engine .frame; selected = false; mark = false; shift = x }) (k .slot)

@@ -5,7 +5,7 @@ use mathlib.Core.Bool.{Bool, true, false, not, _&&_, and-false}
 use mathlib.Core.List.{List, [], _∷_, _++_}
 use native.Mathlib.Omega.{arith}
 use lib.Dec.{ltb, eqb}
-use lib.ListN.{getD, replicate}
+use lib.ListN.{length, getD, replicate}
 use borrow.Author.Tests.{lt-ltb, le-ltb, ne-eqb}
 use Rattle.registers.specs.Choose.{pick}
 use Rattle.registers.specs.Choose.Laws.{pick-yes, pick-no}
@@ -41,7 +41,7 @@ solo tx e = record { tx = tx; engine = e }
 -- A slot is h cycles ---------------------------------------------------------------------------------------------------
 
 -- with c cycles of the slot gone
-abbrev at : ℕ → Engine → Engine
+abbrev pub at : ℕ → Engine → Engine
 at c e = record { slot = e .slot; gone = cycles c; frame = e .frame; selected = e .selected; mark = e .mark; shift = e .shift }
 
 -- in a frame or in an idle slot
@@ -57,7 +57,7 @@ module _ (s : Settings) where
       cleared
 
   -- after c cycles of the slot
-  abbrev past : ℕ → Engine → Engine
+  abbrev pub past : ℕ → Engine → Engine
   past c e = pick (ltb c (s .half)) (at c e) (onward e)
 
   end-slot : (e : Engine) (c : ℕ) → Live e → masterEnd s (at c e) ≡ past (c + 1) e
@@ -69,7 +69,7 @@ module _ (s : Settings) where
   unfolding acted moves masterStep acting resting
   acted-in tx e c = rw (ne-eqb (c + 1) 0 (omega arith), and-false (e .frame), and-false (not (e .frame) && eqb (e .slot .0) 0))
 
-  cycle-in : (tx : List ℕ) (e : Engine) (c : ℕ) → Live e → cycle s (solo tx (at (c + 1) (bare e))) ≡ solo tx (past (c + 1 + 1) (bare e))
+  pub cycle-in : (tx : List ℕ) (e : Engine) (c : ℕ) → Live e → cycle s (solo tx (at (c + 1) (bare e))) ≡ solo tx (past (c + 1 + 1) (bare e))
   unfolding cycle
   cycle-in tx e c live =
       ap (λ (z : Solo). solo (z .tx) (masterEnd s (z .engine))) (acted-in tx e c) ∙ ap (solo tx) (end-slot (bare e) (c + 1) live)
@@ -116,7 +116,7 @@ module _ (s : Settings) where
   pub draws-same : {ls ks : List Lines} {x y : Solo} → Draws ls x y → ls ≡ ks → Draws ks x y
   draws-same {x = x} {y = y} d e = subst (λ (u : List Lines). Draws u x y) e d
 
-  first-cycle : {x y : Solo} {l : Lines} → (k : Slot x l y) → cycle s x ≡ solo (k .state .tx) (past (0 + 1) (bare (k .state .engine)))
+  pub first-cycle : {x y : Solo} {l : Lines} → (k : Slot x l y) → cycle s x ≡ solo (k .state .tx) (past (0 + 1) (bare (k .state .engine)))
   unfolding cycle
   first-cycle k =
       let z = k .state in
@@ -277,3 +277,27 @@ module _ (s : Settings) where
         (draw k (draw (q 0 (omega arith)) (bits-run p q (n - 2) 1 (n - 1) (bitOf t w 0) (omega arith) (omega arith) (omega arith))))
         (ap (bitLines f g t w 0) a))
         (ap (λ (i : ℕ). st i (bitOf t w (n - 1))) r)
+
+-- So many slots from x to the one in which the last word's frame is over.
+pub record Until (s : Settings) (k : ℕ) (x : Solo) : Type 0 where
+  pub drawn : List Lines
+  pub count : length drawn ≡ k
+  pub slot : ℕ
+  pub captured : ℕ
+  pub level : Bool
+  pub word : ℕ
+  pub draws : Draws s drawn x (on slot captured level word [])
+  pub over : eventOf s slot ≡ Release
+
+-- So many slots from x, the last of them in the frame; it ends with this slot.
+pub record UntilEnd (s : Settings) (k : ℕ) (x : Solo) : Type 0 where
+  pub drawn : List Lines
+  pub count : suc (length drawn) ≡ k
+  pub slot : ℕ
+  pub captured : ℕ
+  pub level : Bool
+  pub word : ℕ
+  pub draws : Draws s drawn x (on slot captured level word [])
+  pub line : Lines
+  pub driven : line .released ≡ false
+  pub last : Slot s (on slot captured level word []) line (solo [] (restAt clearShift))

@@ -166,10 +166,10 @@ module _ (s : Settings) (d : DeviceModel) (pins : Pins) (k : Runs s d) where
   unfolding cycle acted
   tx-is = tx-cycle d pins ∙ ap (λ (r : Step). pick (r .takes) (rest (d .registers .tx)) (d .registers .tx)) step-bare
 
-  solo-cycle : soloOf (cycleOf d pins) ≡ cycle s (soloOf d)
+  pub solo-cycle : soloOf (cycleOf d pins) ≡ cycle s (soloOf d)
   solo-cycle = ap₂ (λ (t : List ℕ) (e : Engine). record { tx = t; engine = e }) tx-is engine-is
 
-  runs-cycle : Runs s (cycleOf d pins)
+  pub runs-cycle : Runs s (cycleOf d pins)
   runs-cycle = record { set = ap settingsOf (control-cycle d pins) ∙ k .set; enabled = k .enabled; master = k .master }
 
 -- A device's recording is what its cycles show, whatever its input pins carry.

@@ -103,7 +103,7 @@ joined-told f g s t w v m l e z =
 low-shows : (s : Settings) (clk : Bool) → Shows (low s clk)
 low-shows s clk d = refl
 
-frame0-length : (s : Settings) (w : ℕ) → length (frame0 s w) ≡ 2 * s .bits + 4
+pub frame0-length : (s : Settings) (w : ℕ) → length (frame0 s w) ≡ 2 * s .bits + 4
 frame0-length s w =
     let x = bitLines (low s false) (low s true) (s .bits) w 0 (s .bits) in
     let y = low s false (bitOf (s .bits) w (s .bits - 1)) ∷ idle s ∷ idle s ∷ [] in

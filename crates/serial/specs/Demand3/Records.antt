@@ -1,7 +1,7 @@
 -- Demand 3 over records: playing steps on the bytes of two records, by what the C calls leave, is playing them on the devices that the bytes stand for.
 use Prim.Native.Nat.{ℕ, zero, suc, _≤_}
 use mathlib.Core.Path.{_≡_, refl, sym, ap, ap₂, _∙_, subst}
-use mathlib.Core.Bool.{Bool, true, false, not, _&&_, _||_, true≢false}
+use mathlib.Core.Bool.{Bool, true, false, not, _&&_, true≢false}
 use mathlib.Core.List.{List, [], _∷_, _++_, map}
 use lib.Dec.{eqb}
 use lib.ListN.{length, replicate}
@@ -12,8 +12,7 @@ use Rattle.registers.specs.Offsets.{placeOf}
 use Rattle.registers.specs.Refusals.{refusalOf, firstOf}
 use Rattle.registers.specs.Settings.{enabledOf}
 use Rattle.registers.specs.Model.{Model}
-use Rattle.registers.specs.Access.{readAnswer, readModel, readRefusal, readWord, readDone, writeModel, writeRefusal, writeDone}
-use Rattle.registers.specs.declared.access.Answer.{Answer}
+use Rattle.registers.specs.Access.{readAnswer, readModel, readRefusal, readWord, readDone, writeModel, writeDone}
 use Rattle.registers.specs.declared.access.Answer.the-variants.{Word, Refused}
 use Rattle.serial.specs.Engine.{cleared}
 use Rattle.serial.specs.Cycle.{DeviceModel, cycleOf}
@@ -22,7 +21,7 @@ use Rattle.serial.specs.Sound.{soundDevice, deviceFits}
 use Rattle.serial.specs.Sound.Laws.{sound-read, fits-read, sound-write, fits-write}
 use Rattle.serial.specs.Record.{encodeOf, decodeOf, soundBytes}
 use Rattle.serial.specs.Record.Laws.{length-sound, decode-encode, decode-injective, sound-encode, sound-decode, fits-decode}
-use Rattle.serial.specs.Pair.{wire, PairModel, pairCycle, later}
+use Rattle.serial.specs.Pair.{PairModel, pairCycle, later}
 use Rattle.serial.specs.Pair.Claim.{demand3}
 use Rattle.serial.specs.Alone.{recording}
 use Rattle.serial.specs.Alone.Enabled.{enabling-told}
@@ -30,9 +29,9 @@ use Rattle.serial.specs.Slots.{widthOf}
 use Rattle.registers.specs.declared.settings.Settings.{Settings}
 use Rattle.serial.specs.Lines.{pinsOf, byteOf}
 use Rattle.serial.specs.Run.{steppedOf, outputs}
-use Rattle.serial.specs.Calls.Laws.{Good, good-decode, good-later}
+use Rattle.serial.specs.Calls.Laws.{good-decode, good-later}
 use Rattle.serial.specs.Calls.{leftBy, recordRefusal, readCall, writeCall, pairRefusal, pairAfter}
-use Rattle.serial.specs.Demand3.{Which, Step, play, plays, cyclesIn, Stays, Start, Exchanged, slaveOn, masterOn, enables, cutTo, Enabling, WholeLoad}
+use Rattle.serial.specs.Demand3.{Step, play, plays, cyclesIn, Stays, Start, Exchanged, slaveOn, masterOn, enables, cutTo, Enabling, WholeLoad}
 use Rattle.serial.specs.declared.engine.Engine.{Engine}
 use Rattle.serial.specs.Demand3.Which.{master, slave}
 use Rattle.serial.specs.Demand3.Step.{read, write}
