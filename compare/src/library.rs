@@ -41,7 +41,6 @@ mod linked {
             output: *mut u8,
             output_len: usize,
         ) -> Count;
-        #[cfg(not(feature = "no_pairs"))]
         fn pl022_pair_run(
             first: *mut u8,
             first_len: usize,
@@ -96,7 +95,6 @@ mod linked {
             (answer.refusal, answer.count)
         }
 
-        #[cfg(not(feature = "no_pairs"))]
         fn pair_run(&self, first: &mut [u8], second: &mut [u8], cycles: u64) -> u32 {
             let (first_len, second_len) = (first.len(), second.len());
             unsafe {
@@ -108,11 +106,6 @@ mod linked {
                     cycles,
                 )
             }
-        }
-
-        #[cfg(feature = "no_pairs")]
-        fn pair_run(&self, _: &mut [u8], _: &mut [u8], _: u64) -> u32 {
-            panic!("built without the pair run")
         }
     }
 }

@@ -5,7 +5,7 @@ use compare::cases::{run, run_one, Plan};
 use compare::fault::{Faulty, FAULTS};
 use compare::model::Second;
 
-const PLAN: Plan = Plan { seed: 77, rounds: 16, limit: None, pairs: true };
+const PLAN: Plan = Plan { seed: 77, rounds: 16, limit: None };
 
 #[test]
 fn no_difference_from_itself() {

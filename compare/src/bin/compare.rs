@@ -12,7 +12,7 @@ use std::io::{self, BufRead};
 use std::process::ExitCode;
 use std::time::Duration;
 
-const USAGE: &str = "usage: compare [--self | --fault N] [--pairs] [--odd]
+const USAGE: &str = "usage: compare [--self | --fault N] [--odd]
                [--rounds N] [--least N] [--seconds N] [--seed HEX] [--trace FILE]
        compare [--self | --fault N] --replay < script";
 
@@ -30,7 +30,7 @@ struct Arguments {
 }
 
 fn parse(words: &[String]) -> Option<Arguments> {
-    let plan = Plan { seed: SEED, rounds: 400, limit: None, pairs: false };
+    let plan = Plan { seed: SEED, rounds: 400, limit: None };
     let options = Options::default();
     let mut arguments = Arguments {
         fault: None,
@@ -46,7 +46,6 @@ fn parse(words: &[String]) -> Option<Arguments> {
         match word.as_str() {
             "--self" => arguments.itself = true,
             "--replay" => arguments.replay = true,
-            "--pairs" => arguments.plan.pairs = true,
             "--odd" => arguments.options.odd = true,
             "--trace" => arguments.trace = Some(words.next()?.clone()),
             "--fault" => arguments.fault = Some(words.next()?.parse().ok()?),

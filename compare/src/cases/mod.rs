@@ -20,13 +20,12 @@ pub struct Plan {
     pub rounds: u64,
     /// No new case begins after this time.
     pub limit: Option<Duration>,
-    pub pairs: bool,
 }
 
 type Case = fn(&mut Bench, &mut Random) -> Step<()>;
 
 /// Name, the case, and in which rounds it runs: each n-th.
-const CASES: [(&str, Case, u64); 11] = [
+const CASES: [(&str, Case, u64); 14] = [
     ("accesses", accesses::sequence, 1),
     ("offsets", accesses::every_offset, 16),
     ("master", engine::master, 1),
@@ -38,9 +37,6 @@ const CASES: [(&str, Case, u64); 11] = [
     ("random bytes", damage::random_bytes, 4),
     ("forged records", forged::near_the_limits, 1),
     ("slow", slow::large_slots, 8),
-];
-
-const PAIR_CASES: [(&str, Case, u64); 3] = [
     ("pair", pairs::pair, 1),
     ("pair refusals", pairs::refusals, 4),
     ("forged pair", forged::pair, 1),
@@ -48,7 +44,7 @@ const PAIR_CASES: [(&str, Case, u64); 3] = [
 
 /// One case by its name, from a seed; false if there is none.
 pub fn run_one(bench: &mut Bench, name: &str, seed: u64) -> Step<bool> {
-    for (known, case, _) in CASES.iter().chain(&PAIR_CASES) {
+    for (known, case, _) in &CASES {
         if *known == name {
             bench.begin(format!("case {name}, seed {seed:x}"))?;
             case(bench, &mut Random::new(seed))?;
@@ -63,8 +59,7 @@ pub fn run(bench: &mut Bench, plan: &Plan) -> Step<u64> {
     let in_time = || plan.limit.is_none_or(|limit| start.elapsed() < limit);
     let mut done = 0;
     for round in 0..plan.rounds {
-        let pair_cases: &[_] = if plan.pairs { &PAIR_CASES } else { &[] };
-        for (i, (name, case, every)) in CASES.iter().chain(pair_cases).enumerate() {
+        for (i, (name, case, every)) in CASES.iter().enumerate() {
             if round % every != 0 {
                 continue;
             }
