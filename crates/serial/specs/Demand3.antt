@@ -1,12 +1,11 @@
 -- Demand 3 as a statement: what is compared, from which starts, over which lists of steps. No proof stands here: `demand3` of Pair/Claim.antt proves the first part, `enabling-told` of Alone/Enabled.antt the last sentence; Demand3/Records.antt carries both to records and output bytes.
-use Prim.Native.Nat.{ℕ, zero, suc, _+_, _*_, _%_, _^_, _≤_, _<_}
+use Prim.Native.Nat.{ℕ, zero, suc, _+_, _*_, _≤_, _<_}
 use mathlib.Core.Path.{_≡_}
 use mathlib.Core.Bool.{Bool, true, false}
 use mathlib.Core.Logic.{_⊎_}
 use mathlib.Core.List.{List, [], _∷_, _++_, map}
 use lib.Dec.{ltb}
 use lib.ListN.{length, take, replicate}
-use Rattle.registers.specs.Flags.{busyOf}
 use Rattle.registers.specs.Settings.{settingsOf, enabledOf, permittedOf}
 use Rattle.registers.specs.declared.Control.{Control}
 use Rattle.registers.specs.declared.settings.Format.{Format}
@@ -14,8 +13,10 @@ use Rattle.registers.specs.declared.settings.Format.the-variants.{Motorola, Ti,
 use Rattle.registers.specs.declared.settings.Settings.{Settings}
 use Rattle.serial.specs.Cycle.{DeviceModel, completedOf}
 use Rattle.serial.specs.Access.{readDevice, writeDevice}
+use Rattle.serial.specs.Run.{busyDevice}
 use Rattle.serial.specs.Sound.{soundDevice}
 use Rattle.serial.specs.Alone.{slotTotal, recording}
+use Rattle.serial.specs.Bits.{cut}
 use Rattle.serial.specs.Lines.{byteOf}
 use Rattle.serial.specs.Slots.{widthOf}
 use Rattle.serial.specs.declared.lines.Pins.{Pins}
@@ -100,13 +101,13 @@ pub record Start (p : PairModel) : Type 0 where
 
 -- What is compared -----------------------------------------------------------------------------------------------------
 
-abbrev pub deviceOf : Which → PairModel → DeviceModel
-deviceOf master p = p .first
-deviceOf slave p = p .second
+abbrev pub side : Which → PairModel → DeviceModel
+side master p = p .first
+side slave p = p .second
 
 -- BSY of a device.
 abbrev pub busy : Which → PairModel → Bool
-busy d p = busyOf (deviceOf d p .registers) (deviceOf d p .engine .frame)
+busy d p = busyDevice (side d p)
 
 -- The words that a device completes in a pair cycle, and in n of them.
 abbrev pub completed : Which → PairModel → List ℕ
@@ -119,19 +120,15 @@ received d (suc n) p = completed d p ++ received d n (pairCycle p)
 
 -- A load is the transmit queue at the master's enabling, oldest word first; held are the words in the receive queue then.
 abbrev pub load : Which → PairModel → List ℕ
-load d g = deviceOf d g .registers .tx
+load d g = side d g .registers .tx
 
 abbrev pub held : Which → PairModel → List ℕ
-held d g = deviceOf d g .registers .rx
-
--- Cutting keeps the low b bits.
-abbrev pub cutTo : ℕ → ℕ → ℕ
-cutTo b w = w % 2 ^ b
+held d g = side d g .registers .rx
 
 -- In the slave the words of the master's load; in the master as many of the slave's, filled up with zeros; all cut.
 abbrev pub due : ℕ → Which → PairModel → List ℕ
-due b master g = map (cutTo b) (take (length (load master g)) (load slave g ++ replicate (length (load master g)) 0))
-due b slave g = map (cutTo b) (load master g)
+due b master g = map (cut b) (take (length (load master g)) (load slave g ++ replicate (length (load master g)) 0))
+due b slave g = map (cut b) (load master g)
 
 -- The cycles from a master's enabling to its first BSY 0; for a master alone, of each format, Alone/Free.antt proves it.
 abbrev pub busyFor : Format → Bool → ℕ → ℕ → ℕ → ℕ
@@ -146,7 +143,7 @@ busyFor Reserved phase b h (suc n) = 0
 pub record Received (b n : ℕ) (d : Which) (g : PairModel) : Type 0 where
   pub words : received d n g ≡ due b d g
   pub queue : held d (later n g) ≡ take 8 (held d g ++ due b d g)
-  pub overrun : deviceOf d (later n g) .registers .ror ≡ ltb 8 (length (held d g ++ due b d g))
+  pub overrun : side d (later n g) .registers .ror ≡ ltb 8 (length (held d g ++ due b d g))
 
 -- Of the state g at the master's enabling: the first BSY 0, at most the slot total times h cycles later, and what both have received from then on.
 pub record Exchanged (g : PairModel) : Type 0 where
@@ -191,4 +188,4 @@ LastSentence =
     (s : Settings) (d d′ : DeviceModel) (o v o′ v′ : ℕ) → Enabling s d o v → Enabling s d′ o′ v′ → (ps qs : List Pins)
     → WholeLoad s (writeDevice d o v) ps → WholeLoad s (writeDevice d′ o′ v′) qs
     → map byteOf (recording (writeDevice d o v) ps) ≡ map byteOf (recording (writeDevice d′ o′ v′) qs)
-    → map (cutTo (widthOf s)) (writeDevice d o v .registers .tx) ≡ map (cutTo (widthOf s)) (writeDevice d′ o′ v′ .registers .tx)
+    → map (cut (widthOf s)) (writeDevice d o v .registers .tx) ≡ map (cut (widthOf s)) (writeDevice d′ o′ v′ .registers .tx)

@@ -1,6 +1,5 @@
 -- The lines that a device drives, and the bytes of lines and pins.
-use Prim.Native.Nat.{ℕ, _+_, _≤_}
-use mathlib.Core.Path.{_≡_}
+use Prim.Native.Nat.{ℕ, _+_}
 use mathlib.Core.Bool.{Bool, true, false, not, _&&_, _||_}
 use lib.Dec.{eqb}
 use Rattle.registers.specs.Choose.{pick, bitAt}
@@ -16,11 +15,6 @@ use Rattle.serial.specs.declared.slots.Levels.{Levels}
 -- An input byte: CLK 1, FSS 2, RXD 4.
 unfoldable pub pinsOf : ℕ → Pins
 pinsOf x = record { clk = bitAt x 0; fss = bitAt x 1; rxd = bitAt x 2 }
-
--- A level's bit in a byte.
-pub record ValueOf (flag : Bool) (weight r : ℕ) : Type 0 where
-  pub value : r ≡ pick flag weight 0
-  pub most : r ≤ weight
 
 -- An output byte: CLK 1, FSS 2, TXD 4, nSSPOE 8.
 unfoldable pub byteOf : Lines → ℕ

@@ -1,6 +1,7 @@
 // The lines that a device drives, and the bytes of lines and pins.
 ghost use mathlib.Core.Path.{_≡_};
-ghost use Rattle.serial.specs.Lines.{pinsOf, byteOf, ValueOf, idleOn, clockOn, frameLines, masterLines, showsOn, slaveLines, linesOf, differ};
+ghost use Rattle.registers.specs.Flags.{ValueOf};
+ghost use Rattle.serial.specs.Lines.{pinsOf, byteOf, idleOn, clockOn, frameLines, masterLines, showsOn, slaveLines, linesOf, differ};
 use crate::engine::Engine;
 use crate::slots::Levels;
 use registers::settings::Format;

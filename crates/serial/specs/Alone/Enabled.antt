@@ -11,6 +11,7 @@ use Rattle.registers.specs.Settings.{enabledOf, settingsOf}
 use Rattle.registers.specs.Access.{writeModel}
 use Rattle.registers.specs.Sound.Laws.{enabled-told, control-tell, sound-told}
 use Rattle.registers.specs.declared.settings.Settings.{Settings}
+use Rattle.serial.specs.Bits.{cut}
 use Rattle.serial.specs.Slots.{widthOf}
 use Rattle.serial.specs.Lines.{byteOf}
 use Rattle.serial.specs.Cycle.{DeviceModel}
@@ -18,7 +19,6 @@ use Rattle.serial.specs.Master.Laws.{Masters}
 use Rattle.serial.specs.Access.{engineAfter, writeDevice}
 use Rattle.serial.specs.Sound.{stoppedSound, engineSound, soundDevice}
 use Rattle.serial.specs.Sound.Laws.{sound-registers, sound-engine, sound-write}
-use Rattle.serial.specs.Pair.Top.{cut}
 use Rattle.serial.specs.Alone.{slotTotal, recording}
 use Rattle.serial.specs.Alone.Recorded.{Fresh, load-bytes-told}
 use Rattle.serial.specs.declared.engine.Engine.{Engine}

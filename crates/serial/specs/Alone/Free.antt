@@ -2,10 +2,10 @@
 use Prim.Native.Nat.{ℕ, zero, suc, _+_, _-_, _*_, _≤_, _<_}
 use mathlib.Core.Path.{_≡_, refl, sym, ap, _∙_, subst}
 use mathlib.Core.Bool.{Bool, true, false, not, _&&_, _||_, true≢false}
-use mathlib.Core.List.{List, [], _∷_}
+use mathlib.Core.List.{List, [], _∷_, _++_}
 use native.Mathlib.Omega.{arith}
 use lib.Dec.{ltb, eqb}
-use lib.ListN.{length, replicate, length-replicate}
+use lib.ListN.{length, length-append, replicate, length-replicate}
 use borrow.Author.Tests.{lt-ltb}
 use Rattle.registers.specs.Choose.{pick}
 use Rattle.registers.specs.Choose.Laws.{pick-yes}
@@ -20,12 +20,14 @@ use Rattle.serial.specs.Slots.{eventOf, lastSlot, levelsOf}
 use Rattle.serial.specs.Lines.{masterLines, idleOn, frameLines}
 use Rattle.serial.specs.Master.{act, resting, acting, dataBit, masterStep, ticked, masterEnd}
 use Rattle.serial.specs.Cycle.{DeviceModel, cycleOf}
+use Rattle.serial.specs.Run.{busyDevice}
 use Rattle.serial.specs.Pair.Ends.{waits-cons}
 use Rattle.serial.specs.Pair.Moves.{sending, shifted}
-use Rattle.serial.specs.Alone.{stretch}
-use Rattle.serial.specs.Alone.Told.{Serves, length-stretch}
+use Rattle.serial.specs.Pair.Trace.{iterate, iterate-add}
+use Rattle.serial.specs.Alone.{slotTotal, drawing, stretch}
+use Rattle.serial.specs.Alone.Told.{Serves, length-stretch, length-drawing}
 use Rattle.serial.specs.Alone.Solo.{bare, bareShift, bareStep, Solo, moves, acted, cycle, soloOf, Runs, solo-cycle, runs-cycle, Goes, none, more}
-use Rattle.serial.specs.Alone.Slot.{fixed, solo, on, restAt, at, past, Live, Slot, cycle-in, first-cycle, slot-goes, draws-goes, Until, UntilEnd}
+use Rattle.serial.specs.Alone.Slot.{fixed, solo, on, restAt, at, past, Live, Slot, cycle-in, first-cycle, slot-goes, draws-goes, Draws, Over, over, Last, last, Until}
 use Rattle.serial.specs.Alone.MotorolaWords.{frames0-until, frames1-until}
 use Rattle.serial.specs.Alone.TiWords.{framesTi-until}
 use Rattle.serial.specs.Alone.MicrowireWords.{framesM-until}
@@ -45,14 +47,7 @@ busy x = x .engine .frame || not (eqb (length (x .tx)) 0)
 module _ (s : Settings) where
   -- after n cycles
   abbrev run : ℕ → Solo → Solo
-  run zero x = x
-  run (suc n) x = run n (cycle s x)
-
-  run-add : (i j : ℕ) (x : Solo) → run (i + j) x ≡ run j (run i x)
-  run-add zero j x = let q : 0 + j ≡ j = omega arith in ap (λ (n : ℕ). run n x) q
-  run-add (suc i) j x =
-      let q : suc i + j ≡ suc (i + j) = omega arith in
-      ap (λ (n : ℕ). run n x) q ∙ run-add i j (cycle s x)
+  run n x = iterate n (cycle s) x
 
   run-goes : (ls : List Lines) {x y : Solo} → Goes s ls x y → run (length ls) x ≡ y
   run-goes [] none = refl
@@ -115,7 +110,7 @@ module _ (s : Settings) where
       go true e = e
       go false e =
           let q : i + (k - i) ≡ k = omega arith in
-          absurd (true≢false (sym b ∙ ap (λ (n : ℕ). busy (run n x)) (sym q) ∙ ap busy (run-add i (k - i) x) ∙ run-free (k - i) (run i x) e))
+          absurd (true≢false (sym b ∙ ap (λ (n : ℕ). busy (run n x)) (sym q) ∙ ap busy (iterate-add (cycle s) i (k - i) x) ∙ run-free (k - i) (run i x) e))
 
   -- the slot in which the frame is over
   acted-over : (n c : ℕ) (d : Bool) (w : ℕ) → eventOf s n ≡ Release → acted s (on n c d w []) .engine .frame ≡ false
@@ -177,58 +172,69 @@ run-next : (s : Settings) (n : ℕ) (x : Solo) → run s (suc n) x ≡ cycle s (
 run-next s zero x = refl
 run-next s (suc n) x = run-next s n (cycle s x)
 
-until-frees : (s : Settings) (k : ℕ) (x : Solo) → 0 < s .half → Until s k x → Frees s x (k * s .half + 1)
-until-frees s k x h u =
-    let y = on (u .slot) (u .captured) (u .level) (u .word) [] in
-    let n = length (stretch (s .half) (u .drawn)) in
-    let there = run-goes s (stretch (s .half) (u .drawn)) (draws-goes s h (u .draws)) in
-    record {
-      last = n;
-      next = omega (arith, length-stretch (s .half) (u .drawn) ∙ ap (λ (i : ℕ). i * s .half) (u .count));
-      before = ap busy there;
-      free = ap busy (run-next s n x ∙ ap (cycle s) there) ∙ over-free s (u .slot) (u .captured) (u .level) (u .word) (u .over);
-    }
-
-end-frees : (s : Settings) (k : ℕ) (x : Solo) → 0 < s .half → UntilEnd s k x → Frees s x (k * s .half)
-end-frees s k x h u =
-    let q : suc (n + (s .half - 1)) ≡ n + s .half = omega (arith, h) in
-    record {
-      last = n + (s .half - 1);
-      next = q ∙ total;
-      before = ap busy (run-add s n (s .half - 1) x ∙ ap (run s (s .half - 1)) there) ∙ inside (s .half - 1) (omega (arith, h));
-      free = ap (λ (m : ℕ). busy (run s m x)) q ∙ ap busy ended;
-    }
+-- so many slots and the first cycle of the next
+over-frees : (s : Settings) (all : List Lines) (x : Solo) → 0 < s .half → Until s (Over s) all x → (k : ℕ) → length all ≡ k + 2 → Frees s x (k * s .half + 1)
+over-frees s all x h u k e = go (u .left) (u .there) (u .whole) (u .draws) (u .ends)
   where
-    y : Solo
-    y = on (u .slot) (u .captured) (u .level) (u .word) []
+    go : (left : List Lines) (y : Solo) → u .drawn ++ left ≡ all → Draws s (u .drawn) x y → Over s left y → Frees s x (k * s .half + 1)
+    go left y whole draws (over i c d w release p q) =
+        let n = length (stretch (s .half) (u .drawn)) in
+        let slots : length (u .drawn) ≡ k = omega (arith, length-append (u .drawn) left, ap length whole, e) in
+        let there = run-goes s (stretch (s .half) (u .drawn)) (draws-goes s h draws) in
+        record {
+          last = n;
+          next = omega (arith, length-stretch (s .half) (u .drawn) ∙ ap (λ (j : ℕ). j * s .half) slots);
+          before = ap busy there;
+          free = ap busy (run-next s n x ∙ ap (cycle s) there) ∙ over-free s i c d w release;
+        }
 
+-- so many slots, the last to its end
+last-frees : (s : Settings) (all : List Lines) (x : Solo) → 0 < s .half → Until s (Last s) all x → (k : ℕ) → length all ≡ k → Frees s x (k * s .half)
+last-frees s all x h u k e = go (u .left) (u .there) (u .whole) (u .draws) (u .ends)
+  where
     n : ℕ
     n = length (stretch (s .half) (u .drawn))
 
-    there : run s n x ≡ y
-    there = run-goes s (stretch (s .half) (u .drawn)) (draws-goes s h (u .draws))
-
-    total : n + s .half ≡ k * s .half
-    total = ap (λ (i : ℕ). i + s .half) (length-stretch (s .half) (u .drawn)) ∙ stretched (length (u .drawn)) k (u .count)
+    go : (left : List Lines) (y : Solo) → u .drawn ++ left ≡ all → Draws s (u .drawn) x y → Last s left y → Frees s x (k * s .half)
+    go left y whole draws (last {l} i c d w driven end) =
+        record {
+          last = n + (s .half - 1);
+          next = q ∙ total;
+          before = ap busy (iterate-add (cycle s) n (s .half - 1) x ∙ ap (run s (s .half - 1)) there) ∙ inside (s .half - 1) (omega (arith, h));
+          free = ap (λ (m : ℕ). busy (run s m x)) q ∙ ap busy ended;
+        }
       where
-        stretched : (i k : ℕ) → suc i ≡ k → i * s .half + s .half ≡ k * s .half
-        stretched i k e = omega (arith, ap (λ (m : ℕ). m * s .half) e)
+        q : suc (n + (s .half - 1)) ≡ n + s .half
+        q = omega (arith, h)
 
-    ended : run s (n + s .half) x ≡ solo [] (restAt clearShift)
-    ended = run-add s n (s .half) x ∙ ap (run s (s .half)) there ∙ ap (λ (i : ℕ). run s i y) (sym (length-replicate (s .half) (u .line))) ∙ run-goes s (replicate (s .half) (u .line)) (slot-goes s h (u .last))
+        slots : length (u .drawn) + 1 ≡ k
+        slots = omega (arith, length-append (u .drawn) (l ∷ []), ap length whole, e)
 
-    inside : (j : ℕ) → j < s .half → busy (run s j y) ≡ true
-    inside zero l = refl
-    inside (suc j) l = busy-in s (u .last) (u .driven) j l
+        total : n + s .half ≡ k * s .half
+        total = omega (arith, length-stretch (s .half) (u .drawn), ap (λ (m : ℕ). m * s .half) slots)
+
+        there : run s n x ≡ y
+        there = run-goes s (stretch (s .half) (u .drawn)) (draws-goes s h draws)
+
+        ended : run s (n + s .half) x ≡ solo [] (restAt clearShift)
+        ended =
+            iterate-add (cycle s) n (s .half) x ∙ ap (run s (s .half)) there ∙ ap (λ (i : ℕ). run s i y) (sym (length-replicate (s .half) l))
+            ∙ run-goes s (replicate (s .half) l) (slot-goes s h end)
+
+        inside : (j : ℕ) → j < s .half → busy (run s j y) ≡ true
+        inside zero m = refl
+        inside (suc j) m = busy-in s end driven j m
 
 -- every format
 frees-on : (s : Settings) (f : Format) (phase : Bool) → Serves f → 2 < s .bits → 0 < s .half → (x : Shift) (w : ℕ) (ws : List ℕ)
+    → length (drawing (fixed f phase s) (w ∷ ws)) ≡ slotTotal (fixed f phase s) (suc (length ws))
     → Frees (fixed f phase s) (solo (w ∷ ws) (restAt x)) (busyFor f phase (s .bits) (s .half) (suc (length ws)))
-frees-on s Motorola true r l h x w ws = until-frees (fixed Motorola true s) _ _ h (frames1-until s (omega arith) x w ws)
-frees-on s Motorola false r l h x w ws = until-frees (fixed Motorola false s) _ _ h (frames0-until s (omega arith) x w ws)
-frees-on s Ti phase r l h x w ws = end-frees (fixed Ti phase s) _ _ h (framesTi-until s phase l x w ws)
-frees-on s Microwire phase r l h x w ws = until-frees (fixed Microwire phase s) _ _ h (framesM-until s phase x w ws)
-frees-on s Reserved phase r l h x w ws = absurd (r refl)
+unfolding drawing slotTotal
+frees-on s Motorola true r l h x w ws e = over-frees (fixed Motorola true s) _ _ h (frames1-until s (omega arith) x w ws) _ (omega (arith, e))
+frees-on s Motorola false r l h x w ws e = over-frees (fixed Motorola false s) _ _ h (frames0-until s (omega arith) x w ws) _ (omega (arith, e))
+frees-on s Ti phase r l h x w ws e = last-frees (fixed Ti phase s) _ _ h (framesTi-until s phase l x w ws) _ e
+frees-on s Microwire phase r l h x w ws e = over-frees (fixed Microwire phase s) _ _ h (framesM-until s phase x w ws) _ (omega (arith, e))
+frees-on s Reserved phase r l h x w ws e = absurd (r refl)
 
 -- A device after a cycle for each input.
 abbrev pub passed : DeviceModel → List Pins → DeviceModel
@@ -245,14 +251,14 @@ busyCycles s n = busyFor (s .format) (s .phase) (s .bits) (s .half) n
 
 -- BSY after a cycle for each input: 1 before that many cycles, 0 from then on.
 abbrev pub busyAfter : DeviceModel → List Pins → Bool
-busyAfter d ps = busyOf (passed d ps .registers) (passed d ps .engine .frame)
+busyAfter d ps = busyDevice (passed d ps)
 
 module _ (s : Settings) (d : DeviceModel) (k : Fresh s d) where
   begins : soloOf d ≡ solo (d .registers .tx) (restAt (bareShift (d .engine .shift)))
   begins = ap (solo (d .registers .tx)) (fresh-engine s d k)
 
   busy-is : (ps : List Pins) (ws : List ℕ) → d .registers .tx ≡ ws → busyAfter d ps ≡ busy (run s (length ps) (solo ws (restAt (bareShift (d .engine .shift)))))
-  unfolding busyOf
+  unfolding busyOf busyDevice
   busy-is ps ws e =
       ap busy (passed-solo s d (record { set = k .set; enabled = k .enabled; master = k .master }) ps ∙ ap (run s (length ps)) (begins ∙ ap (λ (v : List ℕ). solo v (restAt (bareShift (d .engine .shift)))) e))
 
@@ -260,7 +266,8 @@ module _ (s : Settings) (d : DeviceModel) (k : Fresh s d) where
   frees w ws =
       subst (λ (u : Settings). Frees u (solo (w ∷ ws) (restAt (bareShift (d .engine .shift)))) (busyCycles s (suc (length ws))))
       (fixed-own s (k .master) (k .enabled))
-      (frees-on s (s .format) (s .phase) (k .serves) (omega (arith, k .least)) (k .half) (bareShift (d .engine .shift)) w ws)
+      (frees-on s (s .format) (s .phase) (k .serves) (omega (arith, k .least)) (k .half) (bareShift (d .engine .shift)) w ws
+      (length-drawing (fixed (s .format) (s .phase) s) (omega (arith, k .least)) (w ∷ ws)))
 
   pub stays-busy : (ps : List Pins) → length ps < busyCycles s (length (d .registers .tx)) → busyAfter d ps ≡ true
   stays-busy ps = go (d .registers .tx) refl
@@ -280,5 +287,5 @@ module _ (s : Settings) (d : DeviceModel) (k : Fresh s d) where
           let r = frees w ws in
           let x = solo (w ∷ ws) (restAt (bareShift (d .engine .shift))) in
           let q : length ps ≡ suc (r .last) + (length ps - suc (r .last)) = omega (arith, r .next, l) in
-          busy-is ps (w ∷ ws) e ∙ ap (λ (n : ℕ). busy (run s n x)) q ∙ ap busy (run-add s (suc (r .last)) (length ps - suc (r .last)) x)
+          busy-is ps (w ∷ ws) e ∙ ap (λ (n : ℕ). busy (run s n x)) q ∙ ap busy (iterate-add (cycle s) (suc (r .last)) (length ps - suc (r .last)) x)
           ∙ run-free s (length ps - suc (r .last)) (run s (suc (r .last)) x) (r .free)

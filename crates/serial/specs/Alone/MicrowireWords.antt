@@ -6,7 +6,6 @@ use mathlib.Core.List.{List, [], _∷_, _++_}
 use native.Mathlib.Omega.{arith}
 use native.Mathlib.Numerals.{add-one}
 use lib.Dec.{leb}
-use lib.ListN.{length, length-append}
 use borrow.Author.Tests.{eq-eqb, ne-eqb, lt-ltb, le-ltb, le-leb, lt-leb}
 use Rattle.registers.specs.declared.settings.Format.the-variants.{Microwire}
 use Rattle.registers.specs.declared.settings.Settings.{Settings}
@@ -18,9 +17,8 @@ use Rattle.serial.specs.Master.{chainStep}
 use Rattle.serial.specs.Pair.Ends.{waits-cons}
 use Rattle.serial.specs.Pair.Moves.{sending, shifted}
 use Rattle.serial.specs.Alone.{low, idle, bitLines, quiet, quiets, chainM, framesM}
-use Rattle.serial.specs.Alone.Told.{length-bits, length-quiets}
 use Rattle.serial.specs.Alone.Solo.{Solo, bareStep}
-use Rattle.serial.specs.Alone.Slot.{fixed, solo, on, restAt, Slot, Draws, done, draw, draws-then, draws-end, draws-same, slot-on, slot-start, slot-release, slot-pause, capture-move, word-run, Until}
+use Rattle.serial.specs.Alone.Slot.{fixed, solo, on, restAt, Slot, Draws, done, draw, draws-end, draws-same, slot-on, slot-start, capture-move, word-run, Over, over, Until, until-done, until-draw, until-then}
 use Rattle.serial.specs.declared.engine.Shift.{Shift}
 use Rattle.serial.specs.declared.slots.Levels.{Levels}
 use Rattle.serial.specs.declared.slots.Event.the-variants.{BeginDrive, Drive, Capture, Chain, Quiet, Release, Pause}
@@ -169,12 +167,9 @@ module _ (s : Settings) (phase : Bool) where
       (microwire-chain b (2 * b + 18) refl) refl
       (lines-at (2 * b + 18) b false w (levels false true) (levels-low (2 * b + 18) (b + 1) (omega arith))) (omega arith) (omega arith)
 
-  end-draws : (w : ℕ) → Draws S (quiet false ∷ idle S ∷ idle S ∷ []) (on (2 * b + 18) b false w []) (solo [] (restAt clearShift))
+  is-over : (w : ℕ) → Over S (idle S ∷ idle S ∷ []) (on (2 * b + 19) b false w [])
   unfolding eventOf lastSlot
-  end-draws w =
-      draw (end-slot w)
-      (draw (slot-release S (2 * b + 19) b false w [] (2 * b + 20) (microwire-release b (2 * b + 19) refl) (omega arith) (omega arith) (omega arith))
-      (draw (slot-pause S (2 * b + 20) [] (omega arith) refl) done))
+  is-over w = over (2 * b + 19) b false w (microwire-release b (2 * b + 19) refl) (omega arith) (omega arith)
 
   -- a word waiting: it starts its slot 0
   chain-slot : (w u : ℕ) (tx : List ℕ) → Slot S (on (2 * b + 18) b false w (u ∷ tx)) (low S false (bitOf 8 u 0)) (on 1 0 (bitOf 8 u 0) u tx)
@@ -185,43 +180,13 @@ module _ (s : Settings) (phase : Bool) where
       (ap (λ (y : Bool). bareStep (chainStep S (sending (2 * b + 18) (shifted b false w 0)) y u 0)) (waits-cons u tx))
       (lines-at 0 0 (bitOf 8 u 0) u _ refl) (omega arith) refl
 
-  chainM-draws : (x : Solo) (w : ℕ) (ws : List ℕ) → Slot S x (low S false (bitOf 8 w 0)) (on 1 0 (bitOf 8 w 0) w ws) → Draws S (chainM S (w ∷ ws)) x (solo [] (restAt clearShift))
-  chainM-draws x w [] k =
-      draws-then S (control-draws w [] x k) (draws-then S (wait-draws w [] (bitOf 8 w 7)) (end-draws w))
-  chainM-draws x w (u ∷ ws) k =
-      draws-then S (control-draws w (u ∷ ws) x k)
-      (draws-then S (wait-draws w (u ∷ ws) (bitOf 8 w 7))
-      (chainM-draws (on (2 * b + 18) b false w (u ∷ ws)) u ws (chain-slot w u ws)))
-
-  pub framesM-draws : (x : Shift) (w : ℕ) (ws : List ℕ) → Draws S (framesM S (w ∷ ws)) (solo (w ∷ ws) (restAt x)) (solo [] (restAt clearShift))
-  framesM-draws x w ws = chainM-draws (solo (w ∷ ws) (restAt x)) w ws (begin-slot x w ws)
-
-  -- Up to the slot in which the last frame is over.
-  chainM-until : (x : Solo) (w : ℕ) (ws : List ℕ) → Slot S x (low S false (bitOf 8 w 0)) (on 1 0 (bitOf 8 w 0) w ws) → Until S (suc (length ws) * (2 * b + 18) + 1) x
-  unfolding eventOf
+  chainM-until : (x : Solo) (w : ℕ) (ws : List ℕ) → Slot S x (low S false (bitOf 8 w 0)) (on 1 0 (bitOf 8 w 0) w ws) → Until S (Over S) (chainM S (w ∷ ws)) x
   chainM-until x w [] k =
-      record {
-        drawn = bitLines (low S false) (low S true) 8 w 0 8 ++ (quiets (b + 1) ++ (quiet false ∷ []));
-        count = omega (arith, length-append (bitLines (low S false) (low S true) 8 w 0 8) (quiets (b + 1) ++ (quiet false ∷ [])), length-append (quiets (b + 1)) (quiet false ∷ []), length-bits (low S false) (low S true) 8 w 0 8, length-quiets (b + 1));
-        slot = 2 * b + 19;
-        captured = b;
-        level = false;
-        word = w;
-        draws = draws-then S (control-draws w [] x k) (draws-then S (wait-draws w [] (bitOf 8 w 7)) (draw (end-slot w) done));
-        over = microwire-release b (2 * b + 19) refl;
-      }
+      until-then (control-draws w [] x k) (until-then (wait-draws w [] (bitOf 8 w 7)) (until-draw (end-slot w) (until-done (is-over w))))
   chainM-until x w (u ∷ ws) k =
-      let r = chainM-until (on (2 * b + 18) b false w (u ∷ ws)) u ws (chain-slot w u ws) in
-      record {
-        drawn = bitLines (low S false) (low S true) 8 w 0 8 ++ (quiets (b + 1) ++ r .drawn);
-        count = omega (arith, length-append (bitLines (low S false) (low S true) 8 w 0 8) (quiets (b + 1) ++ r .drawn), length-append (quiets (b + 1)) (r .drawn), length-bits (low S false) (low S true) 8 w 0 8, length-quiets (b + 1), r .count);
-        slot = r .slot;
-        captured = r .captured;
-        level = r .level;
-        word = r .word;
-        draws = draws-then S (control-draws w (u ∷ ws) x k) (draws-then S (wait-draws w (u ∷ ws) (bitOf 8 w 7)) (r .draws));
-        over = r .over;
-      }
+      until-then (control-draws w (u ∷ ws) x k)
+      (until-then (wait-draws w (u ∷ ws) (bitOf 8 w 7))
+      (chainM-until (on (2 * b + 18) b false w (u ∷ ws)) u ws (chain-slot w u ws)))
 
-  pub framesM-until : (x : Shift) (w : ℕ) (ws : List ℕ) → Until S (suc (length ws) * (2 * b + 18) + 1) (solo (w ∷ ws) (restAt x))
+  pub framesM-until : (x : Shift) (w : ℕ) (ws : List ℕ) → Until S (Over S) (framesM S (w ∷ ws)) (solo (w ∷ ws) (restAt x))
   framesM-until x w ws = chainM-until (solo (w ∷ ws) (restAt x)) w ws (begin-slot x w ws)

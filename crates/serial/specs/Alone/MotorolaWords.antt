@@ -1,10 +1,9 @@
 -- A Motorola master alone draws its load, with SPH 0 and with SPH 1.
-use Prim.Native.Nat.{ℕ, suc, _+_, _-_, _*_, _<_}
-use mathlib.Core.Path.{_≡_, refl, ap}
+use Prim.Native.Nat.{ℕ, _+_, _-_, _*_, _<_}
+use mathlib.Core.Path.{_≡_, refl, sym, ap, subst}
 use mathlib.Core.Bool.{Bool, true, false, not}
-use mathlib.Core.List.{List, [], _∷_, _++_}
+use mathlib.Core.List.{List, [], _∷_, _++_, append-nil}
 use native.Mathlib.Omega.{arith}
-use lib.ListN.{length, length-append}
 use Rattle.registers.specs.declared.settings.Format.the-variants.{Motorola}
 use Rattle.registers.specs.declared.settings.Settings.{Settings}
 use Rattle.serial.specs.Bits.{bitOf}
@@ -16,10 +15,10 @@ use Rattle.serial.specs.Pair.Ends.{waits-cons}
 use Rattle.serial.specs.Pair.Moves.{sending, shifted}
 use Rattle.serial.specs.Pair.Events.{motorola-drive, motorola-capture, motorola-last, motorola-release, lowAt, levels-drive, levels-capture, levels-last, levels-first}
 use Rattle.serial.specs.Alone.{low, idle, bitLines, frame0, frames0, chain1, frames1}
-use Rattle.serial.specs.Alone.Told.{length-bits, frame0-length}
 use Rattle.serial.specs.Alone.Solo.{Solo, bareStep}
-use Rattle.serial.specs.Alone.Slot.{fixed, solo, on, restAt, Slot, Draws, done, draw, draws-then, slot-on, slot-start, slot-release, slot-pause, capture-move, word-run, Until}
+use Rattle.serial.specs.Alone.Slot.{fixed, solo, on, restAt, Slot, Draws, done, draw, slot-on, slot-start, slot-release, slot-pause, capture-move, word-run, Over, over, Until, until-done, until-draw, until-then, until-draws}
 use Rattle.serial.specs.declared.engine.Shift.{Shift}
+use Rattle.serial.specs.declared.lines.Lines.{Lines}
 use Rattle.serial.specs.declared.slots.Levels.{Levels}
 use Rattle.serial.specs.declared.slots.Event.the-variants.{Begin, Drive, Capture, Chain, Pause}
 
@@ -73,6 +72,11 @@ module _ (s : Settings) (phase : Bool) where
       draw (slot-release S (2 * b + 2) b (bitOf b w (b - 1)) w tx (2 * b + 3) (motorola-release phase b (2 * b + 2) refl) (omega arith) (omega arith) (omega arith))
       (draw (slot-pause S (2 * b + 3) tx (omega arith) refl) done)
 
+  -- at the end of a load
+  is-over : (w : ℕ) → Over S (idle S ∷ idle S ∷ []) (on (2 * b + 2) b (bitOf b w (b - 1)) w [])
+  unfolding eventOf lastSlot
+  is-over w = over (2 * b + 2) b (bitOf b w (b - 1)) w (motorola-release phase b (2 * b + 2) refl) (omega arith) (omega arith)
+
 -- SPH 0 ----------------------------------------------------------------------------------------------------------------
 
 module _ (s : Settings) where
@@ -85,15 +89,24 @@ module _ (s : Settings) where
       (motorola-last false t (2 * t + 1) refl) refl
       (lines-at s false (2 * t + 1) (shifted t d w 0) false (levels-last false t (2 * t + 1) refl)) (omega arith) (omega arith)
 
+  -- a frame up to its idle slots
+  frame0-until : {End : List Lines → Solo → Type 0} {all : List Lines} → 1 < s .bits → (x : Shift) (w : ℕ) (tx : List ℕ)
+      → Until (S s false) End all (on (2 * s .bits + 2) (s .bits) (bitOf (s .bits) w (s .bits - 1)) w tx)
+      → Until (S s false) End (low (S s false) false false ∷ (bitLines (low (S s false) false) (low (S s false) true) (s .bits) w 0 (s .bits) ++ (low (S s false) false (bitOf (s .bits) w (s .bits - 1)) ∷ all))) (solo (w ∷ tx) (restAt x))
+  frame0-until l x w tx u =
+      until-draw (begin-slot s false x w tx)
+      (until-then (word-draws s false w tx l (on 1 0 false w tx) (drive-slot s false w tx 0 false (omega arith)))
+      (until-draw (hold-slot0 w tx (bitOf (s .bits) w (s .bits - 1))) u))
+
   frame0-draws : 1 < s .bits → (x : Shift) (w : ℕ) (tx : List ℕ) → Draws (S s false) (frame0 (S s false) w) (solo (w ∷ tx) (restAt x)) (solo tx (restAt clearShift))
   frame0-draws l x w tx =
-      draw (begin-slot s false x w tx)
-      (draws-then (S s false) (word-draws s false w tx l (on 1 0 false w tx) (drive-slot s false w tx 0 false (omega arith)))
-      (draw (hold-slot0 w tx (bitOf (s .bits) w (s .bits - 1))) (end-run s false w tx)))
+      until-draws (λ ls y d. d) (frame0-until {End = λ (ls : List Lines) (y : Solo). Draws (S s false) ls y (solo tx (restAt clearShift))} l x w tx (until-done (end-run s false w tx)))
 
-  pub frames0-draws : 1 < s .bits → (x : Shift) (w : ℕ) (ws : List ℕ) → Draws (S s false) (frames0 (S s false) (w ∷ ws)) (solo (w ∷ ws) (restAt x)) (solo [] (restAt clearShift))
-  frames0-draws l x w [] = draws-then (S s false) (frame0-draws l x w []) done
-  frames0-draws l x w (u ∷ ws) = draws-then (S s false) (frame0-draws l x w (u ∷ ws)) (frames0-draws l clearShift u ws)
+  pub frames0-until : 1 < s .bits → (x : Shift) (w : ℕ) (ws : List ℕ) → Until (S s false) (Over (S s false)) (frames0 (S s false) (w ∷ ws)) (solo (w ∷ ws) (restAt x))
+  frames0-until l x w [] =
+      subst (λ (ls : List Lines). Until (S s false) (Over (S s false)) ls (solo (w ∷ []) (restAt x))) (sym (append-nil (frame0 (S s false) w)))
+      (frame0-until l x w [] (until-done (is-over s false w)))
+  frames0-until l x w (u ∷ ws) = until-then (frame0-draws l x w (u ∷ ws)) (frames0-until l clearShift u ws)
 
 -- SPH 1 ----------------------------------------------------------------------------------------------------------------
 
@@ -118,89 +131,15 @@ module _ (s : Settings) where
       (ap (λ (y : Bool). bareStep (chainStep (S s true) (sending (2 * t + 1) (shifted t d w 0)) y u 1)) (waits-cons u tx))
       (lines-at s true 1 (shifted 0 (bitOf t u 0) u 0) true (levels-drive true t 1 0 refl l)) (omega arith) refl
 
-  chain1-draws : 1 < s .bits → (x : Solo) (w : ℕ) (ws : List ℕ) → Slot (S s true) x (low (S s true) true (bitOf (s .bits) w 0)) (on 2 0 (bitOf (s .bits) w 0) w ws)
-      → Draws (S s true) (chain1 (S s true) w ws) x (solo [] (restAt clearShift))
-  chain1-draws l x w [] k =
-      draws-then (S s true) (word-draws s true w [] l x k) (draw (hold-slot1 w (bitOf (s .bits) w (s .bits - 1))) (end-run s true w []))
-  chain1-draws l x w (u ∷ ws) k =
-      let t = s .bits in
-      draws-then (S s true) (word-draws s true w (u ∷ ws) l x k)
-      (chain1-draws l (on (2 * t + 1) t (bitOf t w (t - 1)) w (u ∷ ws)) u ws (chain-slot (omega arith) w (bitOf t w (t - 1)) u ws))
-
-  pub frames1-draws : 1 < s .bits → (x : Shift) (w : ℕ) (ws : List ℕ) → Draws (S s true) (frames1 (S s true) (w ∷ ws)) (solo (w ∷ ws) (restAt x)) (solo [] (restAt clearShift))
-  frames1-draws l x w ws =
-      draw (begin-slot s true x w ws) (chain1-draws l (on 1 0 false w ws) w ws (drive-slot s true w ws 0 false (omega arith)))
-
--- Up to the slot in which the last frame is over -------------------------------------------------------------------------
-
-module _ (s : Settings) where
-  abbrev t : ℕ
-  t = s .bits
-
-  pub frames0-until : 1 < t → (x : Shift) (w : ℕ) (ws : List ℕ) → Until (S s false) (length ws * (2 * t + 4) + (2 * t + 2)) (solo (w ∷ ws) (restAt x))
-  unfolding eventOf
-  frames0-until l x w [] =
-      record {
-        drawn = low (S s false) false false ∷ (bitLines (low (S s false) false) (low (S s false) true) t w 0 t ++ (low (S s false) false (bitOf t w (t - 1)) ∷ []));
-        count = omega (arith, length-append (bitLines (low (S s false) false) (low (S s false) true) t w 0 t) (low (S s false) false (bitOf t w (t - 1)) ∷ []), length-bits (low (S s false) false) (low (S s false) true) t w 0 t);
-        slot = 2 * t + 2;
-        captured = t;
-        level = bitOf t w (t - 1);
-        word = w;
-        draws = draw (begin-slot s false x w [])
-            (draws-then (S s false) (word-draws s false w [] l (on 1 0 false w []) (drive-slot s false w [] 0 false (omega arith)))
-            (draw (hold-slot0 s w [] (bitOf t w (t - 1))) done));
-        over = motorola-release false t (2 * t + 2) refl;
-      }
-  frames0-until l x w (u ∷ ws) =
-      let r = frames0-until l clearShift u ws in
-      record {
-        drawn = frame0 (S s false) w ++ r .drawn;
-        count = omega (arith, length-append (frame0 (S s false) w) (r .drawn), frame0-length (S s false) w, r .count);
-        slot = r .slot;
-        captured = r .captured;
-        level = r .level;
-        word = r .word;
-        draws = draws-then (S s false) (frame0-draws s l x w (u ∷ ws)) (r .draws);
-        over = r .over;
-      }
-
-  chain1-until : 1 < t → (x : Solo) (w : ℕ) (ws : List ℕ) → Slot (S s true) x (low (S s true) true (bitOf t w 0)) (on 2 0 (bitOf t w 0) w ws) → Until (S s true) (2 * t * suc (length ws) + 1) x
-  unfolding eventOf
+  chain1-until : 1 < s .bits → (x : Solo) (w : ℕ) (ws : List ℕ) → Slot (S s true) x (low (S s true) true (bitOf (s .bits) w 0)) (on 2 0 (bitOf (s .bits) w 0) w ws)
+      → Until (S s true) (Over (S s true)) (chain1 (S s true) w ws) x
   chain1-until l x w [] k =
-      record {
-        drawn = bitLines (low (S s true) true) (low (S s true) false) t w 0 t ++ (low (S s true) false (bitOf t w (t - 1)) ∷ []);
-        count = omega (arith, length-append (bitLines (low (S s true) true) (low (S s true) false) t w 0 t) (low (S s true) false (bitOf t w (t - 1)) ∷ []), length-bits (low (S s true) true) (low (S s true) false) t w 0 t);
-        slot = 2 * t + 2;
-        captured = t;
-        level = bitOf t w (t - 1);
-        word = w;
-        draws = draws-then (S s true) (word-draws s true w [] l x k) (draw (hold-slot1 s w (bitOf t w (t - 1))) done);
-        over = motorola-release true t (2 * t + 2) refl;
-      }
+      until-then (word-draws s true w [] l x k) (until-draw (hold-slot1 w (bitOf (s .bits) w (s .bits - 1))) (until-done (is-over s true w)))
   chain1-until l x w (u ∷ ws) k =
-      let r = chain1-until l (on (2 * t + 1) t (bitOf t w (t - 1)) w (u ∷ ws)) u ws (chain-slot s (omega arith) w (bitOf t w (t - 1)) u ws) in
-      record {
-        drawn = bitLines (low (S s true) true) (low (S s true) false) t w 0 t ++ r .drawn;
-        count = omega (arith, length-append (bitLines (low (S s true) true) (low (S s true) false) t w 0 t) (r .drawn), length-bits (low (S s true) true) (low (S s true) false) t w 0 t, r .count);
-        slot = r .slot;
-        captured = r .captured;
-        level = r .level;
-        word = r .word;
-        draws = draws-then (S s true) (word-draws s true w (u ∷ ws) l x k) (r .draws);
-        over = r .over;
-      }
+      let t = s .bits in
+      until-then (word-draws s true w (u ∷ ws) l x k)
+      (chain1-until l (on (2 * t + 1) t (bitOf t w (t - 1)) w (u ∷ ws)) u ws (chain-slot (omega arith) w (bitOf t w (t - 1)) u ws))
 
-  pub frames1-until : 1 < t → (x : Shift) (w : ℕ) (ws : List ℕ) → Until (S s true) (2 * t * suc (length ws) + 2) (solo (w ∷ ws) (restAt x))
+  pub frames1-until : 1 < s .bits → (x : Shift) (w : ℕ) (ws : List ℕ) → Until (S s true) (Over (S s true)) (frames1 (S s true) (w ∷ ws)) (solo (w ∷ ws) (restAt x))
   frames1-until l x w ws =
-      let r = chain1-until l (on 1 0 false w ws) w ws (drive-slot s true w ws 0 false (omega arith)) in
-      record {
-        drawn = low (S s true) false false ∷ r .drawn;
-        count = omega (arith, r .count);
-        slot = r .slot;
-        captured = r .captured;
-        level = r .level;
-        word = r .word;
-        draws = draw (begin-slot s true x w ws) (r .draws);
-        over = r .over;
-      }
+      until-draw (begin-slot s true x w ws) (chain1-until l (on 1 0 false w ws) w ws (drive-slot s true w ws 0 false (omega arith)))

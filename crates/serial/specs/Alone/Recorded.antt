@@ -10,18 +10,18 @@ use Rattle.registers.specs.Time.{cycles, slots}
 use Rattle.registers.specs.declared.settings.Format.{Format}
 use Rattle.registers.specs.declared.settings.Format.the-variants.{Motorola, Ti, Microwire, Reserved}
 use Rattle.registers.specs.declared.settings.Settings.{Settings}
+use Rattle.serial.specs.Bits.{cut}
 use Rattle.serial.specs.Engine.{clearShift}
 use Rattle.serial.specs.Slots.{widthOf}
 use Rattle.serial.specs.Lines.{byteOf}
 use Rattle.serial.specs.Cycle.{DeviceModel}
-use Rattle.serial.specs.Pair.Top.{cut}
 use Rattle.serial.specs.Alone.{slotTotal, drawingOn, drawing, stretch, recording}
 use Rattle.serial.specs.Alone.Told.{Serves, told, bytes-told, stretch-told, length-stretch, length-drawing}
 use Rattle.serial.specs.Alone.Solo.{bare, bareShift, Goes, recording-goes}
-use Rattle.serial.specs.Alone.Slot.{fixed, solo, restAt, Draws, draws-goes}
-use Rattle.serial.specs.Alone.MotorolaWords.{frames0-draws, frames1-draws}
-use Rattle.serial.specs.Alone.TiWords.{framesTi-draws}
-use Rattle.serial.specs.Alone.MicrowireWords.{framesM-draws}
+use Rattle.serial.specs.Alone.Slot.{fixed, solo, restAt, Draws, draws-goes, over-draws, last-draws, until-draws}
+use Rattle.serial.specs.Alone.MotorolaWords.{frames0-until, frames1-until}
+use Rattle.serial.specs.Alone.TiWords.{framesTi-until}
+use Rattle.serial.specs.Alone.MicrowireWords.{framesM-until}
 use Rattle.serial.specs.declared.engine.Shift.{Shift}
 use Rattle.serial.specs.declared.lines.Pins.{Pins}
 
@@ -42,10 +42,10 @@ pub record Fresh (s : Settings) (d : DeviceModel) : Type 0 where
 draws-on : (s : Settings) (f : Format) (phase : Bool) → Serves f → 2 < s .bits → (x : Shift) (w : ℕ) (ws : List ℕ)
     → Draws (fixed f phase s) (drawing (fixed f phase s) (w ∷ ws)) (solo (w ∷ ws) (restAt x)) (solo [] (restAt clearShift))
 unfolding drawing
-draws-on s Motorola true r l x w ws = frames1-draws s (omega arith) x w ws
-draws-on s Motorola false r l x w ws = frames0-draws s (omega arith) x w ws
-draws-on s Ti phase r l x w ws = framesTi-draws s phase l x w ws
-draws-on s Microwire phase r l x w ws = framesM-draws s phase x w ws
+draws-on s Motorola true r l x w ws = until-draws (over-draws _) (frames1-until s (omega arith) x w ws)
+draws-on s Motorola false r l x w ws = until-draws (over-draws _) (frames0-until s (omega arith) x w ws)
+draws-on s Ti phase r l x w ws = until-draws (last-draws _) (framesTi-until s phase l x w ws)
+draws-on s Microwire phase r l x w ws = until-draws (over-draws _) (framesM-until s phase x w ws)
 draws-on s Reserved phase r l x w ws = absurd (r refl)
 
 pub fixed-own : (s : Settings) → s .slave ≡ false → s .enabled ≡ true → fixed (s .format) (s .phase) s ≡ s

@@ -278,26 +278,43 @@ module _ (s : Settings) where
         (ap (bitLines f g t w 0) a))
         (ap (λ (i : ℕ). st i (bitOf t w (n - 1))) r)
 
--- So many slots from x to the one in which the last word's frame is over.
-pub record Until (s : Settings) (k : ℕ) (x : Solo) : Type 0 where
-  pub drawn : List Lines
-  pub count : length drawn ≡ k
-  pub slot : ℕ
-  pub captured : ℕ
-  pub level : Bool
-  pub word : ℕ
-  pub draws : Draws s drawn x (on slot captured level word [])
-  pub over : eventOf s slot ≡ Release
+-- The end of a load --------------------------------------------------------------------------------------------------------
 
--- So many slots from x, the last of them in the frame; it ends with this slot.
-pub record UntilEnd (s : Settings) (k : ℕ) (x : Solo) : Type 0 where
-  pub drawn : List Lines
-  pub count : suc (length drawn) ≡ k
-  pub slot : ℕ
-  pub captured : ℕ
-  pub level : Bool
-  pub word : ℕ
-  pub draws : Draws s drawn x (on slot captured level word [])
-  pub line : Lines
-  pub driven : line .released ≡ false
-  pub last : Slot s (on slot captured level word []) line (solo [] (restAt clearShift))
+module _ (s : Settings) where
+  -- the slot in which the last frame is over, the first of two idle ones
+  pub data Over : List Lines → Solo → Type 0 where
+    over : (n c : ℕ) (d : Bool) (w : ℕ) → eventOf s n ≡ Release → 0 < n → n + 1 ≡ lastSlot s → Over (idle s ∷ idle s ∷ []) (on n c d w [])
+
+  -- a last slot that is in the frame to its end
+  pub data Last : List Lines → Solo → Type 0 where
+    last : {l : Lines} (n c : ℕ) (d : Bool) (w : ℕ) → l .released ≡ false → Slot s (on n c d w []) l (solo [] (restAt clearShift)) → Last (l ∷ []) (on n c d w [])
+
+  pub over-draws : (ls : List Lines) (x : Solo) → Over ls x → Draws s ls x (solo [] (restAt clearShift))
+  over-draws ls x (over n c d w e p q) = draw (slot-release s n c d w [] (n + 1) e p (omega (arith, q)) refl) (draw (slot-pause s (n + 1) [] (omega arith) q) done)
+
+  pub last-draws : (ls : List Lines) (x : Solo) → Last ls x → Draws s ls x (solo [] (restAt clearShift))
+  last-draws ls x (last n c d w r k) = draw k done
+
+  -- slots from x to an end: all of a drawing but what is left there
+  pub record Until (End : List Lines → Solo → Type 0) (all : List Lines) (x : Solo) : Type 0 where
+    pub drawn : List Lines
+    pub left : List Lines
+    pub there : Solo
+    pub whole : drawn ++ left ≡ all
+    pub draws : Draws s drawn x there
+    pub ends : End left there
+
+module _ {s : Settings} {End : List Lines → Solo → Type 0} where
+  pub until-done : {all : List Lines} {x : Solo} → End all x → Until s End all x
+  until-done {all} {x} e = record { drawn = []; left = all; there = x; whole = refl; draws = done; ends = e }
+
+  pub until-draw : {l : Lines} {all : List Lines} {x y : Solo} → Slot s x l y → Until s End all y → Until s End (l ∷ all) x
+  until-draw {l} k u =
+      record { drawn = l ∷ u .drawn; left = u .left; there = u .there; whole = ap (λ (ls : List Lines). l ∷ ls) (u .whole); draws = draw k (u .draws); ends = u .ends }
+
+  pub until-then : {ls all : List Lines} {x y : Solo} → Draws s ls x y → Until s End all y → Until s End (ls ++ all) x
+  until-then done u = u
+  until-then (draw k d) u = until-draw k (until-then d u)
+
+  pub until-draws : {all : List Lines} {x z : Solo} → ((ls : List Lines) (y : Solo) → End ls y → Draws s ls y z) → Until s End all x → Draws s all x z
+  until-draws f u = draws-same s (draws-then s (u .draws) (f (u .left) (u .there) (u .ends))) (u .whole)

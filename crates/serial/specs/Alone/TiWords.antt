@@ -5,7 +5,6 @@ use mathlib.Core.Bool.{Bool, true, false, not}
 use mathlib.Core.List.{List, [], _∷_, _++_}
 use native.Mathlib.Omega.{arith}
 use lib.Dec.{eqb}
-use lib.ListN.{length, length-append}
 use borrow.Author.Tests.{ne-eqb}
 use Rattle.registers.specs.Choose.Laws.{pick-no}
 use Rattle.registers.specs.declared.settings.Format.the-variants.{Ti}
@@ -19,9 +18,8 @@ use Rattle.serial.specs.Pair.Ends.{waits-cons}
 use Rattle.serial.specs.Pair.Moves.{sending, shifted}
 use Rattle.serial.specs.Pair.Events.{lowAt, ti-drive, ti-capture, ti-last, ti-levels-even, ti-levels-odd}
 use Rattle.serial.specs.Alone.{low, bitLines, marked, held, joined, framesTi}
-use Rattle.serial.specs.Alone.Told.{length-bits}
 use Rattle.serial.specs.Alone.Solo.{Solo, bareStep}
-use Rattle.serial.specs.Alone.Slot.{fixed, solo, on, restAt, Slot, Draws, done, draw, draws-then, slot-on, slot-last, slot-start, capture-move, word-run, UntilEnd}
+use Rattle.serial.specs.Alone.Slot.{fixed, solo, on, restAt, Slot, Draws, slot-on, slot-last, slot-start, capture-move, word-run, Last, last, Until, until-done, until-draw, until-then}
 use Rattle.serial.specs.declared.engine.Shift.{Shift}
 use Rattle.serial.specs.declared.slots.Levels.{Levels}
 use Rattle.serial.specs.declared.slots.Event.the-variants.{Begin, Drive, First, Capture, JoinDrive, JoinCapture}
@@ -117,62 +115,16 @@ module _ (s : Settings) (phase : Bool) where
       (ap bareStep (pick-no _ _ (ne-eqb (b - 1) 0 (omega arith))) ∙ capture-move S b _ 1 (b - 1) d u (omega arith))
       (lines-at 1 (b - 1 + 1) d u (record { clk = false; fss = true; released = false }) (ap (λ (t : Bool). tiLevels (not t) 1) (ne-eqb (b - 1 + 1) 0 (omega arith)))) (omega arith) refl
 
-  joined-draws : 2 < b → (w : ℕ) (ws : List ℕ) (c : ℕ) (d : Bool) → Draws S (joined S w ws) (on 2 c d w ws) (solo [] (restAt clearShift))
-  joined-draws l w [] c d =
-      draws-then S (word-draws l w [] c d)
-      (draw (last-drive (omega arith) w (bitOf b w (b - 1 - 1))) (draw (last-capture (omega arith) w (bitOf b w (b - 1))) done))
-  joined-draws l w (u ∷ ws) c d =
-      draws-then S (word-draws l w (u ∷ ws) c d)
-      (draw (join-drive (omega arith) w (bitOf b w (b - 1 - 1)) u ws)
-      (draw (join-capture (omega arith) (bitOf b w (b - 1)) u ws)
-      (joined-draws l u ws (b - 1 + 1) (bitOf b w (b - 1)))))
-
-  pub framesTi-draws : 2 < b → (x : Shift) (w : ℕ) (ws : List ℕ) → Draws S (framesTi S (w ∷ ws)) (solo (w ∷ ws) (restAt x)) (solo [] (restAt clearShift))
-  framesTi-draws l x w ws = draw (begin-slot x w ws) (draw (mark-slot w ws (omega arith)) (joined-draws l w ws 0 false))
-
-  -- Up to the last slot, with which the last frame is over.
-  joined-until : 2 < b → (w : ℕ) (ws : List ℕ) (c : ℕ) (d : Bool) → UntilEnd S (2 * b * suc (length ws)) (on 2 c d w ws)
+  joined-until : 2 < b → (w : ℕ) (ws : List ℕ) (c : ℕ) (d : Bool) → Until S (Last S) (joined S w ws) (on 2 c d w ws)
   joined-until l w [] c d =
-      record {
-        drawn = bitLines (low S true) (low S false) b w 0 (b - 1) ++ (low S true (bitOf b w (b - 1)) ∷ []);
-        count = omega (arith, length-append (bitLines (low S true) (low S false) b w 0 (b - 1)) (low S true (bitOf b w (b - 1)) ∷ []), length-bits (low S true) (low S false) b w 0 (b - 1));
-        slot = 2 * (b - 1) + 3;
-        captured = b - 1;
-        level = bitOf b w (b - 1);
-        word = w;
-        draws = draws-then S (word-draws l w [] c d) (draw (last-drive (omega arith) w (bitOf b w (b - 1 - 1))) done);
-        line = low S false (bitOf b w (b - 1));
-        driven = refl;
-        last = last-capture (omega arith) w (bitOf b w (b - 1));
-      }
+      until-then (word-draws l w [] c d)
+      (until-draw (last-drive (omega arith) w (bitOf b w (b - 1 - 1)))
+      (until-done (last (2 * (b - 1) + 3) (b - 1) (bitOf b w (b - 1)) w refl (last-capture (omega arith) w (bitOf b w (b - 1))))))
   joined-until l w (u ∷ ws) c d =
-      let r = joined-until l u ws (b - 1 + 1) (bitOf b w (b - 1)) in
-      record {
-        drawn = bitLines (low S true) (low S false) b w 0 (b - 1) ++ (held true (bitOf b w (b - 1)) ∷ held false (bitOf b w (b - 1)) ∷ r .drawn);
-        count = omega (arith, length-append (bitLines (low S true) (low S false) b w 0 (b - 1)) (held true (bitOf b w (b - 1)) ∷ held false (bitOf b w (b - 1)) ∷ r .drawn), length-bits (low S true) (low S false) b w 0 (b - 1), r .count);
-        slot = r .slot;
-        captured = r .captured;
-        level = r .level;
-        word = r .word;
-        draws = draws-then S (word-draws l w (u ∷ ws) c d)
-            (draw (join-drive (omega arith) w (bitOf b w (b - 1 - 1)) u ws) (draw (join-capture (omega arith) (bitOf b w (b - 1)) u ws) (r .draws)));
-        line = r .line;
-        driven = r .driven;
-        last = r .last;
-      }
+      until-then (word-draws l w (u ∷ ws) c d)
+      (until-draw (join-drive (omega arith) w (bitOf b w (b - 1 - 1)) u ws)
+      (until-draw (join-capture (omega arith) (bitOf b w (b - 1)) u ws)
+      (joined-until l u ws (b - 1 + 1) (bitOf b w (b - 1)))))
 
-  pub framesTi-until : 2 < b → (x : Shift) (w : ℕ) (ws : List ℕ) → UntilEnd S (2 * b * suc (length ws) + 2) (solo (w ∷ ws) (restAt x))
-  framesTi-until l x w ws =
-      let r = joined-until l w ws 0 false in
-      record {
-        drawn = marked true ∷ marked false ∷ r .drawn;
-        count = omega (arith, r .count);
-        slot = r .slot;
-        captured = r .captured;
-        level = r .level;
-        word = r .word;
-        draws = draw (begin-slot x w ws) (draw (mark-slot w ws (omega arith)) (r .draws));
-        line = r .line;
-        driven = r .driven;
-        last = r .last;
-      }
+  pub framesTi-until : 2 < b → (x : Shift) (w : ℕ) (ws : List ℕ) → Until S (Last S) (framesTi S (w ∷ ws)) (solo (w ∷ ws) (restAt x))
+  framesTi-until l x w ws = until-draw (begin-slot x w ws) (until-draw (mark-slot w ws (omega arith)) (joined-until l w ws 0 false))

@@ -12,11 +12,11 @@ use Rattle.registers.specs.Choose.{bitAt}
 use Rattle.registers.specs.declared.settings.Format.{Format}
 use Rattle.registers.specs.declared.settings.Format.the-variants.{Motorola, Ti, Microwire, Reserved}
 use Rattle.registers.specs.declared.settings.Settings.{Settings}
-use Rattle.serial.specs.Bits.{bitOf, shiftedIn}
+use Rattle.serial.specs.Bits.{bitOf, shiftedIn, cut}
 use Rattle.serial.specs.Lines.{byteOf}
 use Rattle.serial.specs.Slots.{widthOn, widthOf}
 use Rattle.serial.specs.Alone.{low, idle, bitLines, frame0, frames0, chain1, frames1, held, joined, framesTi, quiets, chainM, framesM, drawingOn, drawing, stretch, totalOn, slotTotal}
-use Rattle.serial.specs.Pair.Top.{top, cut, top-zero, top-next, top-full}
+use Rattle.serial.specs.Pair.Top.{top, top-zero, top-next, top-full}
 use Rattle.serial.specs.declared.lines.Lines.{Lines}
 
 -- Lists ----------------------------------------------------------------------------------------------------------------

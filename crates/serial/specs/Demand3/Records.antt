@@ -31,7 +31,8 @@ use Rattle.serial.specs.Lines.{pinsOf, byteOf}
 use Rattle.serial.specs.Run.{steppedOf, outputs}
 use Rattle.serial.specs.Calls.Laws.{good-decode, good-later}
 use Rattle.serial.specs.Calls.{leftBy, recordRefusal, readCall, writeCall, pairRefusal, pairAfter}
-use Rattle.serial.specs.Demand3.{Step, play, plays, cyclesIn, Stays, Start, Exchanged, slaveOn, masterOn, enables, cutTo, Enabling, WholeLoad}
+use Rattle.serial.specs.Bits.{cut}
+use Rattle.serial.specs.Demand3.{Step, play, plays, cyclesIn, Stays, Start, Exchanged, slaveOn, masterOn, enables, Enabling, WholeLoad}
 use Rattle.serial.specs.declared.engine.Engine.{Engine}
 use Rattle.serial.specs.Demand3.Which.{master, slave}
 use Rattle.serial.specs.Demand3.Step.{read, write}
@@ -228,7 +229,7 @@ pub last-sentence-records : (s : Settings) (b b′ : List ℕ) (o v o′ v′ : 
     → Enabling s (decodeOf b) o v → Enabling s (decodeOf b′) o′ v′ → (ins ins′ : List ℕ)
     → WholeLoad s (decodeOf (writtenBytes b o v)) (map pinsOf ins) → WholeLoad s (decodeOf (writtenBytes b′ o′ v′)) (map pinsOf ins′)
     → outputs (decodeOf (writtenBytes b o v)) ins ≡ outputs (decodeOf (writtenBytes b′ o′ v′)) ins′
-    → map (cutTo (widthOf s)) (decodeOf (writtenBytes b o v) .registers .tx) ≡ map (cutTo (widthOf s)) (decodeOf (writtenBytes b′ o′ v′) .registers .tx)
+    → map (cut (widthOf s)) (decodeOf (writtenBytes b o v) .registers .tx) ≡ map (cut (widthOf s)) (decodeOf (writtenBytes b′ o′ v′) .registers .tx)
 last-sentence-records s b b′ o v o′ v′ sb sb′ e e′ ins ins′ w w′ same =
     let d = write-left b o v sb .is in
     let d′ = write-left b′ o′ v′ sb′ .is in
@@ -237,5 +238,5 @@ last-sentence-records s b b′ o v o′ v′ sb sb′ e e′ ins ins′ w w′ s
     let whole′ = subst (λ (x : DeviceModel). WholeLoad s x (map pinsOf ins′)) d′ w′ in
     let bytes = sym (ap (λ (x : DeviceModel). outputs x ins) d ∙ outputs-recording (writeDevice (decodeOf b) o v) ins) in
     let bytes′ = ap (λ (x : DeviceModel). outputs x ins′) d′ ∙ outputs-recording (writeDevice (decodeOf b′) o′ v′) ins′ in
-    let cut : DeviceModel → List ℕ = λ (x : DeviceModel). map (cutTo (widthOf s)) (x .registers .tx) in
-    ap cut d ∙ (tell whole whole′ (bytes ∙ (same ∙ bytes′)) ∙ sym (ap cut d′))
+    let load : DeviceModel → List ℕ = λ (x : DeviceModel). map (cut (widthOf s)) (x .registers .tx) in
+    ap load d ∙ (tell whole whole′ (bytes ∙ (same ∙ bytes′)) ∙ sym (ap load d′))

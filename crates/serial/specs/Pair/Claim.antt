@@ -21,13 +21,14 @@ use Rattle.serial.specs.Engine.{cleared, still}
 use Rattle.serial.specs.Lines.{idleOn, linesOf, masterLines, slaveLines, differ}
 use Rattle.serial.specs.Slave.{slaveStep, motorolaSlave, tiSlave}
 use Rattle.serial.specs.Cycle.{DeviceModel, deviceStep, stepOf}
+use Rattle.serial.specs.Run.{busyDevice}
 use Rattle.serial.specs.Cycle.Laws.{control-cycle, step-stopped}
 use Rattle.serial.specs.Access.{writeDevice}
 use Rattle.serial.specs.Sound.Laws.{sound-registers}
 use Rattle.serial.specs.Alone.{slotTotal}
 use Rattle.serial.specs.Pair.{wire, PairModel, pairCycle, later}
 use Rattle.serial.specs.Pair.Trace.{iterate}
-use Rattle.serial.specs.Pair.Top.{cut}
+use Rattle.serial.specs.Bits.{cut}
 use Rattle.serial.specs.Pair.Core as Core
 use Rattle.serial.specs.Pair.Core.{Receiver, Side, Pair, plain, coreCycle}
 use Rattle.serial.specs.Pair.Settle.{rested, Lawful}
@@ -184,7 +185,7 @@ module _ {f : Format} (S : Serial f) (phase p : Bool) (b h k : ℕ) (o : Bool) (
   until = busyCycles X W slow (load master g)
 
   busy-of : (i : ℕ) (t : Bool) → Core.busy (iterate i (coreCycle (plain f phase b h false) (plain f phase b h true)) start .m) ≡ t → busy master (later i g) ≡ t
-  unfolding busyOf
+  unfolding busyOf busyDevice
   busy-of i t e = ap (λ (c : Pair). Core.busy (c .m)) (run-of i) ∙ e
 
   held-small₁ : length (held master g) ≤ 8

@@ -12,7 +12,7 @@ use Rattle.registers.specs.Time.{cycles, slots}
 use Rattle.registers.specs.Transfer.{rest}
 use Rattle.registers.specs.declared.settings.Format.the-variants.{Motorola}
 use Rattle.registers.specs.declared.settings.Settings.{Settings}
-use Rattle.serial.specs.Bits.{bitOf}
+use Rattle.serial.specs.Bits.{bitOf, cut}
 use Rattle.serial.specs.Engine.{cleared, clearShift, still, loaded}
 use Rattle.serial.specs.Slots.{eventOf, motorolaEvent, lastSlot, levelsOf}
 use Rattle.serial.specs.Lines.{masterLines, slaveLines, frameLines}
@@ -20,7 +20,6 @@ use Rattle.serial.specs.Master.{act, masterStep, masterEnd, acting, rest
 use Rattle.serial.specs.Slave.{slaveStep, slaveEnd, motorolaSlave, motorolaSelect, motorolaEdges, captureEdge, driveEdge, motorolaClock}
 use Rattle.serial.specs.Pair.{wire}
 use Rattle.serial.specs.Pair.Trace.{Trace, none, more, iterate, trace-ever, trace-run}
-use Rattle.serial.specs.Pair.Top.{cut}
 use Rattle.serial.specs.Pair.Core.{Receiver, Side, Pair, plain, push, moved, waits, acted, masterSide, slaveSide, coreCycle, busy}
 use Rattle.serial.specs.Pair.Settle.{Two, at, onward, slotStep, next, Live, rested, Meets, slots-trace, Lawful, Settled, side-first}
 use Rattle.serial.specs.Pair.Quiet.{lawful-motorola}

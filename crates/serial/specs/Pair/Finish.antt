@@ -13,7 +13,7 @@ use Rattle.registers.specs.Choose.{pick}
 use Rattle.registers.specs.Transfer.{added}
 use Rattle.registers.specs.declared.settings.Settings.{Settings}
 use Rattle.serial.specs.Pair.Trace.{Trace, none, more, iterate, iterate-add, iterate-fixed, trace-map, trace-at, trace-run}
-use Rattle.serial.specs.Pair.Top.{cut}
+use Rattle.serial.specs.Bits.{cut}
 use Rattle.serial.specs.Pair.Core.{Receiver, Side, Pair, push, coreCycle, busy}
 use Rattle.serial.specs.Pair.Settle.{Two, at, next, slotStep, Lawful, rested, Meets, Both, slots-trace}
 use Rattle.serial.specs.Pair.Moves.{Queues, Going}

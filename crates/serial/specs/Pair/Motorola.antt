@@ -11,7 +11,7 @@ use Rattle.registers.specs.Choose.{pick}
 use Rattle.registers.specs.Time.{cycles, slots}
 use Rattle.registers.specs.declared.settings.Format.the-variants.{Motorola}
 use Rattle.registers.specs.declared.settings.Settings.{Settings}
-use Rattle.serial.specs.Bits.{bitOf, shiftedIn}
+use Rattle.serial.specs.Bits.{bitOf, cut, shiftedIn}
 use Rattle.serial.specs.Engine.{cleared, clearShift, withShift, still, started, driven, captureStep}
 use Rattle.serial.specs.Slots.{eventOf, lastSlot, widthOf, motorolaLevels, levelsOf}
 use Rattle.serial.specs.Lines.{masterLines, slaveLines, frameLines}
@@ -19,7 +19,7 @@ use Rattle.serial.specs.Master.{masterStep, acting, resting, dataBit}
 use Rattle.serial.specs.Slave.{slaveStep, slaveEnd, motorolaSlave, motorolaSelect, motorolaEdges, motorolaClock, captureEdge, driveEdge}
 use Rattle.serial.specs.Pair.{wire}
 use Rattle.serial.specs.Pair.Trace.{Trace, none, more, trace-count, trace-end, trace-then}
-use Rattle.serial.specs.Pair.Top.{top, cut, top-zero, top-next, top-last}
+use Rattle.serial.specs.Pair.Top.{top, top-zero, top-next, top-last}
 use Rattle.serial.specs.Pair.Core.{Receiver, Side, plain, push, acted, slaveSide, busy}
 use Rattle.serial.specs.Pair.Settle.{Two, at, onward, slotStep, next, Live, Settled}
 use Rattle.serial.specs.Pair.Events.{motorola-drive, motorola-capture, motorola-last, motorola-release, lowAt, levels-drive, levels-capture, levels-last, levels-first}

@@ -8,7 +8,7 @@ use lib.ListN.{length, getD}
 use borrow.Author.Tests.{ne-eqb, lt-ltb}
 use Rattle.registers.specs.Choose.{pick}
 use Rattle.registers.specs.Transfer.{rest}
-use Rattle.serial.specs.Bits.{bitOf}
+use Rattle.serial.specs.Bits.{bitOf, cut}
 use Rattle.serial.specs.Engine.{cleared, still, begun, loaded, started, driven}
 use Rattle.serial.specs.Slots.{eventOf, lastSlot, widthOf}
 use Rattle.serial.specs.Lines.{slaveLines}
@@ -16,7 +16,7 @@ use Rattle.serial.specs.Master.{dataBit}
 use Rattle.serial.specs.Slave.{selectedOf, slaveStep, slaveEnd, motorolaSlave, motorolaSelect, motorolaEdges, captureEdge, driveEdge, motorolaClock}
 use Rattle.serial.specs.Pair.{wire}
 use Rattle.serial.specs.Pair.Trace.{Trace, none, more, iterate, trace-count, trace-then, trace-end}
-use Rattle.serial.specs.Pair.Top.{cut, top-zero}
+use Rattle.serial.specs.Pair.Top.{top-zero}
 use Rattle.serial.specs.Pair.Core.{Receiver, Side, push, slaveSide, coreCycle, busy}
 use Rattle.serial.specs.Pair.Settle.{Two, Live, Settled, rested, slotStep}
 use Rattle.serial.specs.Pair.Quiet.{quiet-low}

@@ -7,7 +7,7 @@ use native.Mathlib.Omega.{arith}
 use lib.ListN.{length, getD}
 use Rattle.registers.specs.Choose.{pick}
 use Rattle.registers.specs.Transfer.{rest}
-use Rattle.serial.specs.Bits.{bitOf}
+use Rattle.serial.specs.Bits.{bitOf, cut}
 use Rattle.serial.specs.Engine.{cleared, clearShift, still, begun, loaded, started, driven}
 use Rattle.serial.specs.Slots.{eventOf, lastSlot, widthOf}
 use Rattle.serial.specs.Lines.{slaveLines}
@@ -15,7 +15,7 @@ use Rattle.serial.specs.Master.{dataBit, act}
 use Rattle.serial.specs.Slave.{slaveStep, slaveEnd, motorolaSlave, motorolaSelect, motorolaEdges, captureEdge, driveEdge, motorolaClock}
 use Rattle.serial.specs.Pair.{wire}
 use Rattle.serial.specs.Pair.Trace.{Trace, none, more, iterate, trace-count, trace-then, trace-end}
-use Rattle.serial.specs.Pair.Top.{cut, top-zero}
+use Rattle.serial.specs.Pair.Top.{top-zero}
 use Rattle.serial.specs.Pair.Core.{Receiver, Side, push, slaveSide, coreCycle, busy, waits}
 use Rattle.serial.specs.Pair.Settle.{Two, Live, Settled, rested, slotStep}
 use Rattle.serial.specs.Pair.Events.{motorola-drive, motorola-last, levels-drive, levels-last}

@@ -12,7 +12,7 @@ use Rattle.registers.specs.Time.{cycles, slots}
 use Rattle.registers.specs.Transfer.{rest}
 use Rattle.registers.specs.declared.settings.Format.the-variants.{Ti}
 use Rattle.registers.specs.declared.settings.Settings.{Settings}
-use Rattle.serial.specs.Bits.{bitOf, shiftedIn}
+use Rattle.serial.specs.Bits.{bitOf, cut, shiftedIn}
 use Rattle.serial.specs.Engine.{cleared, clearShift, withShift, still, begun, loaded, started, driven, captureStep}
 use Rattle.serial.specs.Slots.{eventOf, tiEvent, lastSlot, widthOf, tiLevels, levelsOf}
 use Rattle.serial.specs.Lines.{masterLines, slaveLines, frameLines}
@@ -20,7 +20,7 @@ use Rattle.serial.specs.Master.{act, masterStep, masterEnd, acting, rest
 use Rattle.serial.specs.Slave.{withMark, slaveStep, slaveEnd, tiSlave, tiFalls, tiRises}
 use Rattle.serial.specs.Pair.{wire}
 use Rattle.serial.specs.Pair.Trace.{Trace, none, more, iterate, trace-count, trace-then, trace-end}
-use Rattle.serial.specs.Pair.Top.{top, cut, top-zero, top-next, top-last}
+use Rattle.serial.specs.Pair.Top.{top, top-zero, top-next, top-last}
 use Rattle.serial.specs.Pair.Core.{Receiver, Side, Pair, plain, push, moved, waits, withEngine, acted, masterSide, slaveSide, coreCycle, busy}
 use Rattle.serial.specs.Pair.Settle.{Two, at, onward, slotStep, next, Live, Settled, rested, mk}
 use Rattle.serial.specs.Pair.Quiet.{quiet-ti}

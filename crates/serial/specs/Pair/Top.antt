@@ -7,15 +7,11 @@ use native.Mathlib.Omega.{arith}
 use lib.Dec.{eqb}
 use lib.Pow.{mod-pow-add, shr-shr, pow-mono, pow-pos}
 use Rattle.registers.specs.Choose.{pick}
-use Rattle.serial.specs.Bits.{bitOf, shiftedIn}
+use Rattle.serial.specs.Bits.{bitOf, cut, shiftedIn}
 
 -- the top c of the b bits of w
 unfoldable pub top : ℕ → ℕ → ℕ → ℕ
 top b w c = w / 2 ^ (b - c) % 2 ^ c
-
--- w cut to b bits
-abbrev pub cut : ℕ → ℕ → ℕ
-cut b w = w % 2 ^ b
 
 pub top-zero : (b w : ℕ) → top b w 0 ≡ 0
 unfolding top
