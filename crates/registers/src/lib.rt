@@ -34,12 +34,12 @@ pub struct Timeout {
     pub count: Cycles,
 }
 
-// The register file.
+// The register file. The small fields stand together: a copy of it then has no gap to carry.
 pub struct Registers {
     control: Control,
     masks: Masks,
-    timeout: Timeout,
     ror: bool,
+    timeout: Timeout,
     tx: Queue,
     rx: Queue,
 }

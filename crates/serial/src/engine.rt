@@ -14,17 +14,18 @@ pub struct Shift {
     pub receiving: u16,
 }
 
+// Wide fields first, so that a copy has no gap to carry.
 pub struct Engine {
-    // a master's slot, and the cycles of it that have gone
-    pub slot: Slots,
+    // the cycles that have gone of a master's slot
     pub gone: Cycles,
+    pub slot: Slots,
+    pub shift: Shift,
     // a frame is in progress
     pub frame: bool,
     // a Motorola slave is selected
     pub selected: bool,
     // a TI slave has seen the mark of a start
     pub mark: bool,
-    pub shift: Shift,
 }
 
 // What a cycle's step leaves.
