@@ -1,27 +1,35 @@
 # Thin front: each target does its own set-up.
-.PHONY: demo bench test compare fmt
+.PHONY: demo tool bench test compare fmt
 
 LIBRARY = target/staticlib/libserial.a
+CFLAGS = -std=c11 -D_POSIX_C_SOURCE=200809L -Wall -Wextra -Wpedantic -Wconversion -Wshadow -Werror -O2 -Iinclude
 
-# A real transfer through the C calls, shown on the terminal.
-demo: target/loopback
-	target/loopback
+# A driver and a wired device exchange messages in every format; the wire is shown.
+demo: target/board
+	target/board
+
+# Runs scripts of accesses and cycles, draws the lines: docs/SCRIPTS.md.
+tool: target/pl022
+
+target/loopback: examples/loopback.c
+target/bench: examples/bench.c
+target/board: $(wildcard examples/board/*.[ch])
+target/pl022: $(wildcard examples/tool/*.[ch])
+target/loopback target/bench target/board target/pl022: include/pl022.h $(LIBRARY)
+	cc $(CFLAGS) -o $@ $(filter %.c,$^) $(LIBRARY)
+
+$(LIBRARY): crates.txt $(shell find crates -name '*.rt' -o -name '*.antt')
+	rt staticlib serial
 
 # 300 million cycles, and accesses, timed.
 bench: target/bench
 	target/bench
 
-target/%: examples/%.c include/pl022.h $(LIBRARY)
-	cc -std=c11 -D_POSIX_C_SOURCE=199309L -Wall -Wextra -Werror -O2 -Iinclude -o $@ $< $(LIBRARY)
-
-$(LIBRARY):
-	rt staticlib serial
-
 # The gate.
 test:
 	.ci/run
 
-# The second program against the library, call by call.
+# The library against the second program, call by call.
 compare:
 	compare/run.sh
 

@@ -71,6 +71,36 @@ enum pl022_refusal {
     PL022_BAD_INPUT = 12
 };
 
+/* Register offsets. The identity registers are eight, four bytes apart. */
+enum pl022_register {
+    PL022_CR0 = 0x00,
+    PL022_CR1 = 0x04,
+    PL022_DR = 0x08,
+    PL022_SR = 0x0C,
+    PL022_CPSR = 0x10,
+    PL022_IMSC = 0x14,
+    PL022_RIS = 0x18,
+    PL022_MIS = 0x1C,
+    PL022_ICR = 0x20,
+    PL022_DMACR = 0x24,
+    PL022_IDENTITY = 0xFE0
+};
+
+/* Bits of a line byte: RXD in an input byte, TXD and nSSPOE in an output byte. */
+enum pl022_line {
+    PL022_CLK = 1,
+    PL022_FSS = 2,
+    PL022_RXD = 4,
+    PL022_TXD = 4,
+    PL022_NSSPOE = 8
+};
+
+/* Where a record keeps the input and the output byte of the last cycle run. */
+enum pl022_place {
+    PL022_RECORD_PINS = 24,
+    PL022_RECORD_LINES = 27
+};
+
 /* What a read answers: a word with refusal 0, or a refusal number with word 0. */
 struct pl022_word {
     uint32_t refusal;
@@ -162,6 +192,11 @@ struct pl022_count pl022_run_to_idle(uint8_t *record, size_t record_len,
  * In each cycle the input of either device is the other's output in the cycle before:
  * CLK and FSS as driven, RXD the other's TXD, LOW where the other releases it. Accesses
  * between calls do not change what the next cycle sees. No cycles are done too.
+ *
+ * The first cycle sees the output of the other's last cycle, whichever call ran it: after
+ * another set-up let four cycles pass before a slave is enabled, and enable it before its
+ * master. The call gives no lines; to record them run one cycle at a time and look at
+ * PL022_RECORD_LINES in each record.
  *
  * Returns     0; or 10 if either record is not 128 bytes long, then 9 if either is not
  *             sound.

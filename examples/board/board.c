@@ -1,0 +1,416 @@
+/*
+ * board.c: a board with a PL022 master and, wired to it, a PL022 slave (Motorola, TI) or a
+ * Microwire peripheral. Each format carries a message both ways; both ends are compared with it.
+ *
+ * Exit status 0 if all words and all refusals were as expected, otherwise 1.
+ */
+#include <stdio.h>
+#include <stdlib.h>
+#include "board.h"
+
+enum {
+    POLL_PERIOD = 50,           /* cycles between two polls of a driver */
+    CYCLE_LIMIT = 100000,       /* no exchange here needs as many */
+    SETTLE_CYCLES = 4,          /* more than the wire and the slave's pins delay a level */
+    QUEUE_WORDS = 8,
+    MAX_SLOTS = 52
+};
+
+/* Bits above the word size are set on purpose: they must not reach the other side. */
+static const uint16_t master_words[MAX_WORDS] = {
+    0xC3A6, 0x5E1D, 0xFFFF, 0x0000, 0x8001, 0x7A52, 0x13C8, 0xE94B, 0x2DF7, 0xB06E, 0x4893, 0x9D35
+};
+static const uint16_t slave_words[MAX_WORDS] = {
+    0x6B59, 0xA4E2, 0x0001, 0xFFF8, 0x3C7D, 0xD216, 0x95AF, 0x4E30, 0xF78B, 0x1964, 0x82CD, 0x5AB4
+};
+
+/* Lines of the first frame, in the first cycle of each slot: events happen there. */
+struct recording {
+    unsigned slots;
+    uint8_t lines[MAX_SLOTS], pins[MAX_SLOTS];
+};
+
+struct board {
+    const struct settings *settings;    /* of the present exchange */
+    char title[48];
+    struct port master, slave;
+    struct peripheral peripheral;
+    struct recording first_frame;
+    unsigned cycles;                    /* since the master was enabled */
+};
+
+static unsigned slot_cycles(const struct settings *settings)
+{
+    return settings->cpsr / 2 * (1 + settings->scr);
+}
+
+static void cut_words(uint16_t *to, const uint16_t *from, size_t count, unsigned bits)
+{
+    for (size_t i = 0; i < count; i++)
+        to[i] = cut(from[i], bits);
+}
+
+/* --- Clock and wires --- */
+
+static void run_pair(struct board *board, uint64_t cycles)
+{
+    check("pl022_pair_run", "master and slave", "no register",
+          pl022_pair_run(board->master.record, sizeof board->master.record,
+                         board->slave.record, sizeof board->slave.record, cycles), PL022_DONE);
+}
+
+/* As in the wired pair, a level that the peripheral drives reaches the master one cycle later. */
+static void run_microwire(struct board *board)
+{
+    uint8_t input = board->peripheral.rxd, output;
+
+    check("pl022_run", "master", "no register",
+          pl022_run(board->master.record, sizeof board->master.record,
+                    &input, 1, &output, 1), PL022_DONE);
+    peripheral_cycle(&board->peripheral, output);
+}
+
+/* Slots in which the first word goes over the wire, idle ones included. */
+static unsigned frame_slots(const struct settings *settings)
+{
+    switch (settings->format) {
+    case FORMAT_MOTOROLA: return 2 * settings->bits + (settings->sph ? 1 : 4);
+    case FORMAT_TI:       return 2 * settings->bits + 2;
+    default:              return 2 * settings->bits + 18;
+    }
+}
+
+/* In TI format the start of the next word overlaps with the last bit. */
+static unsigned next_word_slot(const struct settings *settings)
+{
+    return settings->format == FORMAT_TI ? 2 * settings->bits : frame_slots(settings);
+}
+
+/* One cycle at a time, because a pair run leaves only its last lines in the records. */
+static void advance(struct board *board, unsigned cycles)
+{
+    struct recording *recording = &board->first_frame;
+
+    for (unsigned i = 0; i < cycles; i++) {
+        if (board->settings->format == FORMAT_MICROWIRE)
+            run_microwire(board);
+        else
+            run_pair(board, 1);
+        if (board->cycles % slot_cycles(board->settings) == 0 &&
+            recording->slots < frame_slots(board->settings)) {
+            recording->lines[recording->slots] = board->master.record[PL022_RECORD_LINES];
+            recording->pins[recording->slots] = board->master.record[PL022_RECORD_PINS];
+            recording->slots++;
+        }
+        board->cycles++;
+    }
+}
+
+/* --- Report --- */
+
+/* Prints words whole, so that a bit above the word size would be seen. */
+static void print_words(const char *who, const uint16_t *words, size_t count, unsigned bits)
+{
+    printf("  %-20s", who);
+    for (size_t i = 0; i < count && i < MAX_WORDS; i++)
+        printf(" %0*X", (int)(bits + 3) / 4, (unsigned)words[i]);
+    putchar('\n');
+}
+
+/* Prints the bits of a message that are sent. */
+static void print_sent(const char *who, const uint16_t *words, size_t count, unsigned bits)
+{
+    uint16_t sent[MAX_WORDS];
+
+    cut_words(sent, words, count, bits);
+    print_words(who, sent, count, bits);
+}
+
+static void print_line(const char *name, const uint8_t *levels, unsigned slots, unsigned line)
+{
+    printf("    %-8s", name);
+    for (unsigned i = 0; i < slots; i++)
+        putchar(levels[i] & line ? '-' : '_');
+    putchar('\n');
+}
+
+/* The slot in which the master captures bit i of a word; i counts from the first bit sent. */
+static unsigned capture_slot(const struct settings *settings, unsigned i)
+{
+    static const unsigned first[] = {
+        [FORMAT_MOTOROLA] = 2, [FORMAT_TI] = 3, [FORMAT_MICROWIRE] = 19
+    };
+    return first[settings->format] + 2 * i;
+}
+
+static void print_recording(const struct board *board)
+{
+    const struct recording *recording = &board->first_frame;
+    unsigned h = slot_cycles(board->settings);
+    char captures[MAX_SLOTS + 1] = "";
+
+    for (unsigned i = 0; i < recording->slots; i++)
+        captures[i] = '.';
+    for (unsigned i = 0; i < board->settings->bits; i++)
+        captures[capture_slot(board->settings, i)] =
+            "0123456789ABCDEF"[board->settings->bits - 1 - i];
+    printf("  first frame, a column for each slot of %u cycle%s, - HIGH, _ LOW; "
+           "the next word begins in slot %u\n",
+           h, h == 1 ? "" : "s", next_word_slot(board->settings));
+    print_line("CLK", recording->lines, recording->slots, PL022_CLK);
+    print_line("FSS", recording->lines, recording->slots, PL022_FSS);
+    print_line("TXD", recording->lines, recording->slots, LINE_DATA);
+    print_line("nSSPOE", recording->lines, recording->slots, PL022_NSSPOE);
+    print_line("RXD", recording->pins, recording->slots, LINE_DATA);
+    printf("    %-8s%s\n", "capture", captures);
+}
+
+static void print_polls(const char *who, const struct transfer *transfer)
+{
+    printf("  %s driver: %u polls, %u with the transmit queue full, "
+           "%u with nothing received, %u with an overrun\n", who, transfer->polls,
+           transfer->polls_full, transfer->polls_empty, transfer->overruns);
+}
+
+/* --- Checks --- */
+
+static void compare(const struct board *board, const char *who, const uint16_t *words,
+                    size_t count, const uint16_t *expected, size_t expected_count)
+{
+    bool same = count == expected_count;
+
+    fflush(stdout);
+    if (!same)
+        fprintf(stderr, "board: %s: %s %zu words, expected %zu\n",
+                board->title, who, count, expected_count);
+    for (size_t i = 0; i < count && i < expected_count; i++) {
+        if (words[i] != expected[i]) {
+            fprintf(stderr, "board: %s: %s %04X as word %zu, expected %04X\n",
+                    board->title, who, (unsigned)words[i], i, (unsigned)expected[i]);
+            same = false;
+        }
+    }
+    if (!same)
+        exit(EXIT_FAILURE);
+}
+
+static void compare_overruns(const struct board *board, const struct transfer *transfer,
+                             unsigned expected)
+{
+    if (transfer->overruns != expected) {
+        fflush(stdout);
+        fprintf(stderr, "board: %s: %s with %u overruns, expected %u\n", board->title,
+                transfer->port->name, transfer->overruns, expected);
+        exit(EXIT_FAILURE);
+    }
+}
+
+/* Reads a word off the recorded data line, a bit in every second slot. */
+static uint16_t recorded_word(const uint8_t *levels, unsigned first_slot, unsigned bits)
+{
+    unsigned word = 0;
+
+    for (unsigned i = 0; i < bits; i++)
+        word = word << 1 | (levels[first_slot + 2 * i] & LINE_DATA ? 1 : 0);
+    return (uint16_t)word;
+}
+
+/* The printed lines must carry the first word of either side. */
+static void compare_recording(const struct board *board, uint16_t sent, uint16_t received)
+{
+    const struct settings *settings = board->settings;
+    bool microwire = settings->format == FORMAT_MICROWIRE;
+    unsigned first = capture_slot(settings, 0);
+    uint16_t txd = recorded_word(board->first_frame.lines, microwire ? 1 : first,
+                                 microwire ? CONTROL_BITS : settings->bits);
+    uint16_t rxd = recorded_word(board->first_frame.pins, first, settings->bits);
+
+    compare(board, "TXD of the first frame carried", &txd, 1, &sent, 1);
+    compare(board, "RXD of the first frame carried", &rxd, 1, &received, 1);
+}
+
+static void check_limit(const struct board *board)
+{
+    if (board->cycles >= CYCLE_LIMIT) {
+        fflush(stdout);
+        fprintf(stderr, "board: %s: not all words have arrived after %u cycles\n",
+                board->title, board->cycles);
+        exit(EXIT_FAILURE);
+    }
+}
+
+/* --- Exchanges --- */
+
+/* Prints the heading; cycles and recording start again. */
+static void open_exchange(struct board *board, const struct settings *settings, const char *remark)
+{
+    static const char *const names[] = {
+        [FORMAT_MOTOROLA] = "Motorola", [FORMAT_TI] = "TI", [FORMAT_MICROWIRE] = "Microwire"
+    };
+    char mode[16] = "";
+
+    board->settings = settings;
+    board->cycles = 0;
+    board->first_frame.slots = 0;
+    if (settings->format == FORMAT_MOTOROLA)
+        snprintf(mode, sizeof mode, " SPO %u SPH %u", settings->spo & 1, settings->sph & 1);
+    snprintf(board->title, sizeof board->title, "%s%s, %u bits",
+             names[settings->format], mode, settings->bits);
+    printf("%s, CPSR %u, SCR %u, %zu words%s\n",
+           board->title, settings->cpsr, settings->scr, settings->words, remark);
+}
+
+/* Sets the master up with its first words waiting, and leaves it disabled. */
+static void begin(struct board *board, struct transfer *master)
+{
+    port_setup(&board->master, board->settings, 0);
+    transfer_start(master, &board->master, master_words, board->settings->words);
+}
+
+/*
+ * The slave is enabled after the lines have come to rest, and before the master. Otherwise edges
+ * left over from the last format count: a TI slave would take a fall of CLK with FSS HIGH for a
+ * start, and a Motorola slave that has not seen FSS HIGH would miss the first frame.
+ */
+static void begin_pair(struct board *board, struct transfer *master,
+                       struct transfer *slave, size_t slave_count)
+{
+    begin(board, master);
+    port_setup(&board->slave, board->settings, CR1_MS);
+    transfer_start(slave, &board->slave, slave_words, slave_count);
+    run_pair(board, SETTLE_CYCLES);
+    port_enable(&board->slave);
+    port_enable(&board->master);
+}
+
+/* Runs until all words are through; slave is null where no driver of a slave is polled. */
+static void exchange(struct board *board, struct transfer *master, struct transfer *slave)
+{
+    while (!transfer_done(master) || (slave && !transfer_done(slave))) {
+        check_limit(board);
+        advance(board, POLL_PERIOD);
+        transfer_poll(master);
+        if (slave)
+            transfer_poll(slave);
+    }
+}
+
+static void print_pair(const struct board *board, const struct transfer *master,
+                       const struct transfer *slave)
+{
+    unsigned bits = board->settings->bits;
+
+    print_sent("master sent", master->words, master->sent, bits);
+    print_words("slave received", slave->answer, slave->received, bits);
+    print_sent("slave sent", slave->words, slave->sent, bits);
+    print_words("master received", master->answer, master->received, bits);
+    print_recording(board);
+    print_polls("master", master);
+    print_polls("slave", slave);
+}
+
+static void exchange_pair(struct board *board, const struct settings *settings)
+{
+    struct transfer master, slave;
+    uint16_t to_slave[MAX_WORDS], to_master[MAX_WORDS];
+
+    open_exchange(board, settings, "");
+    begin_pair(board, &master, &slave, settings->words);
+    exchange(board, &master, &slave);
+    print_pair(board, &master, &slave);
+
+    cut_words(to_slave, master_words, settings->words, settings->bits);
+    cut_words(to_master, slave_words, settings->words, settings->bits);
+    compare(board, "slave received", slave.answer, slave.received, to_slave, settings->words);
+    compare(board, "master received", master.answer, master.received, to_master, settings->words);
+    compare_recording(board, to_slave[0], to_master[0]);
+    compare_overruns(board, &master, 0);
+    compare_overruns(board, &slave, 0);
+}
+
+static void exchange_microwire(struct board *board, const struct settings *settings)
+{
+    struct peripheral *peripheral = &board->peripheral;
+    struct transfer master;
+    uint16_t to_peripheral[MAX_WORDS], to_master[MAX_WORDS];
+
+    *peripheral = (struct peripheral){ .bits = settings->bits, .lines = PL022_FSS };
+    open_exchange(board, settings, ", a control byte for each");
+    begin(board, &master);
+    port_enable(&board->master);
+    exchange(board, &master, NULL);
+    print_sent("master sent", master.words, master.sent, CONTROL_BITS);
+    print_words("peripheral received", peripheral->control, peripheral->frames, CONTROL_BITS);
+    print_words("peripheral sent", peripheral->answer, peripheral->frames, settings->bits);
+    print_words("master received", master.answer, master.received, settings->bits);
+    print_recording(board);
+    print_polls("master", &master);
+
+    cut_words(to_peripheral, master_words, settings->words, CONTROL_BITS);
+    for (size_t i = 0; i < settings->words; i++)
+        to_master[i] = table_word(to_peripheral[i], settings->bits);
+    compare(board, "peripheral received", peripheral->control, peripheral->frames,
+            to_peripheral, settings->words);
+    compare(board, "master received", master.answer, master.received, to_master, settings->words);
+    compare_recording(board, to_peripheral[0], to_master[0]);
+    compare_overruns(board, &master, 0);
+}
+
+/*
+ * The slave's driver is polled only after the message, which is one word longer than its queues.
+ * The ninth word is lost and the overrun flag tells so; the ninth answer is zeros, because no word
+ * was waiting.
+ */
+static void exchange_late(struct board *board)
+{
+    static const struct settings settings = { FORMAT_MOTOROLA, 0, 1, 8, 12, 0, QUEUE_WORDS + 1 };
+    struct transfer master, slave;
+    uint16_t to_slave[QUEUE_WORDS], to_master[QUEUE_WORDS + 1] = { 0 };
+
+    open_exchange(board, &settings, ", the slave is polled too late");
+    begin_pair(board, &master, &slave, QUEUE_WORDS);
+    exchange(board, &master, NULL);
+    transfer_poll(&slave);
+    transfer_poll(&slave);      /* finds no overrun: the first poll has cleared the flag */
+    print_pair(board, &master, &slave);
+
+    cut_words(to_slave, master_words, QUEUE_WORDS, settings.bits);
+    cut_words(to_master, slave_words, QUEUE_WORDS, settings.bits);
+    compare(board, "slave received", slave.answer, slave.received, to_slave, QUEUE_WORDS);
+    compare(board, "master received", master.answer, master.received, to_master, settings.words);
+    compare_overruns(board, &master, 0);
+    compare_overruns(board, &slave, 1);
+}
+
+int main(void)
+{
+    /* With a PL022 slave a slot has at least 6 cycles; the peripheral here has no such limit. */
+    static const struct settings exchanges[] = {
+        { FORMAT_MOTOROLA,  0, 0,  8, 12, 0, 12 },
+        { FORMAT_MOTOROLA,  0, 1, 12,  4, 2,  8 },
+        { FORMAT_MOTOROLA,  1, 0,  4,  2, 5, 10 },
+        { FORMAT_MOTOROLA,  1, 1, 16, 14, 0, 12 },
+        { FORMAT_MICROWIRE, 0, 0, 10,  2, 0, 12 },
+        { FORMAT_MICROWIRE, 0, 0, 16,  4, 1,  3 },
+        { FORMAT_TI,        0, 0,  9,  6, 1, 11 },
+    };
+    size_t count = sizeof exchanges / sizeof exchanges[0], words = 0;
+    struct board board = { 0 };
+
+    port_reset(&board.master, "master");
+    port_reset(&board.slave, "slave");
+    for (size_t i = 0; i < count; i++) {
+        if (exchanges[i].format == FORMAT_MICROWIRE)
+            exchange_microwire(&board, &exchanges[i]);
+        else
+            exchange_pair(&board, &exchanges[i]);
+        words += exchanges[i].words;
+        putchar('\n');
+    }
+    exchange_late(&board);
+    putchar('\n');
+    unsigned refusals = show_refusals();
+    printf("\n%zu exchanges with %zu words each way as expected, 1 overrun noticed, "
+           "%u refusals as expected\n", count, words, refusals);
+    return fflush(stdout) || ferror(stdout) ? EXIT_FAILURE : EXIT_SUCCESS;
+}

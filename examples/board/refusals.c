@@ -1,0 +1,156 @@
+/* refusals.c: every refusal, provoked on purpose on a device of its own. */
+#include <inttypes.h>
+#include <stdio.h>
+#include <stdlib.h>
+#include <string.h>
+#include "board.h"
+
+enum call { CALL_RESET, CALL_READ, CALL_WRITE, CALL_RUN, CALL_RUN_TO_IDLE, CALL_PAIR_RUN };
+enum state { AFTER_RESET, ENABLED, QUEUE_FULL, DAMAGED };
+enum { BUFFER = 4 };
+
+/* Everything that is lent to a call, so that one comparison covers it. */
+struct lent {
+    struct port port, other;
+    uint8_t input[BUFFER], output[BUFFER];
+};
+
+struct attempt {
+    uint32_t refusal;           /* expected */
+    enum state state;
+    enum call call;
+    uint32_t offset, value;     /* read and write */
+    size_t short_by;            /* bytes withheld: of the record, or of a run's output */
+    const char *what;
+};
+
+static const struct attempt attempts[] = {
+    { PL022_BAD_OFFSET,    AFTER_RESET, CALL_READ,  0x02,     0, 0, "read at 0x2" },
+    { PL022_BAD_OFFSET,    AFTER_RESET, CALL_WRITE, 0x1000,   0, 0, "write at 0x1000" },
+    { PL022_RESERVED,      AFTER_RESET, CALL_READ,  0x28,     0, 0, "read at 0x28" },
+    { PL022_WRONG_ACCESS,  AFTER_RESET, CALL_WRITE, PL022_SR,   0, 0, "write of SR" },
+    { PL022_WRONG_ACCESS,  AFTER_RESET, CALL_READ,  PL022_ICR,  0, 0, "read of ICR" },
+    { PL022_EXTRA_BITS,    AFTER_RESET, CALL_WRITE, PL022_CR1,  0x10, 0, "CR1 with bit 4" },
+    { PL022_WHILE_ENABLED, ENABLED,     CALL_WRITE, PL022_CPSR, 14, 0, "CPSR with SSE 1" },
+    { PL022_WHILE_ENABLED, ENABLED,     CALL_WRITE, PL022_CR1,  CR1_MS, 0,
+      "CR1: MS set and SSE cleared in one write" },
+    { PL022_NOT_PERMITTED, AFTER_RESET, CALL_WRITE, PL022_CR0,  2, 0, "CR0 with 3 bits" },
+    { PL022_NOT_PERMITTED, AFTER_RESET, CALL_WRITE, PL022_CR1,  CR1_SSE, 0, "SSE after reset" },
+    { PL022_QUEUE_FULL,    QUEUE_FULL,  CALL_WRITE, PL022_DR,   0x55, 0, "ninth write of DR" },
+    { PL022_QUEUE_EMPTY,   AFTER_RESET, CALL_READ,  PL022_DR,   0, 0, "read of DR" },
+    { PL022_UNSOUND,       DAMAGED,     CALL_READ,  PL022_SR,   0, 0, "read of SR, spare byte set" },
+    { PL022_UNSOUND,       DAMAGED,     CALL_PAIR_RUN, 0,     0, 0, "pair run, spare byte set" },
+    { PL022_WRONG_LENGTH,  AFTER_RESET, CALL_RESET, 0,        0, 1, "reset of 127 bytes" },
+    { PL022_WRONG_LENGTH,  AFTER_RESET, CALL_PAIR_RUN, 0,     0, 1, "pair run with 127 bytes" },
+    { PL022_LINES_DIFFER,  AFTER_RESET, CALL_RUN,   0,        0, 1, "run, 4 bytes in, 3 out" },
+    { PL022_BAD_INPUT,     AFTER_RESET, CALL_RUN,   0,        8, 0, "run, last input byte 8" },
+    { PL022_BAD_INPUT,     QUEUE_FULL,  CALL_RUN_TO_IDLE, 0,  8, 0,
+      "run to idle, last input byte 8" },
+};
+
+static void prepare(struct lent *lent, const struct attempt *attempt)
+{
+    static const struct settings settings = { FORMAT_MOTOROLA, 0, 0, 8, 12, 0, 0 };
+
+    memset(lent, 0, sizeof *lent);
+    memset(lent->output, 0xEE, sizeof lent->output);
+    lent->input[BUFFER - 1] = (uint8_t)attempt->value;
+    port_reset(&lent->port, "device");
+    port_reset(&lent->other, "other device");
+    if (attempt->state == ENABLED) {
+        port_setup(&lent->port, &settings, 0);
+        port_enable(&lent->port);
+    } else if (attempt->state == QUEUE_FULL) {
+        for (uint32_t word = 0; word < 8; word++)
+            port_write(&lent->port, PL022_DR, word);
+    } else if (attempt->state == DAMAGED) {
+        lent->port.record[PL022_RECORD_LENGTH - 1] = 1;
+    }
+}
+
+/* Returns the refusal number; what comes beside it must be 0. */
+static uint32_t perform(struct lent *lent, const struct attempt *attempt, uint64_t *beside)
+{
+    uint8_t *record = lent->port.record;
+    struct pl022_word word;
+    struct pl022_count run;
+
+    *beside = 0;
+    switch (attempt->call) {
+    case CALL_RESET:
+        return pl022_reset(record, PL022_RECORD_LENGTH - attempt->short_by);
+    case CALL_READ:
+        word = pl022_read(record, PL022_RECORD_LENGTH, attempt->offset);
+        *beside = word.word;
+        return word.refusal;
+    case CALL_WRITE:
+        return pl022_write(record, PL022_RECORD_LENGTH, attempt->offset, attempt->value);
+    case CALL_RUN:
+        return pl022_run(record, PL022_RECORD_LENGTH, lent->input, BUFFER,
+                         lent->output, BUFFER - attempt->short_by);
+    case CALL_RUN_TO_IDLE:
+        run = pl022_run_to_idle(record, PL022_RECORD_LENGTH, lent->input, BUFFER,
+                                lent->output, BUFFER - attempt->short_by);
+        *beside = run.count;
+        return (uint32_t)run.refusal;
+    default:
+        return pl022_pair_run(lent->other.record, PL022_RECORD_LENGTH,
+                              record, PL022_RECORD_LENGTH - attempt->short_by, 1);
+    }
+}
+
+static void show(const struct attempt *attempt)
+{
+    struct lent lent, before;
+    uint64_t beside;
+
+    prepare(&lent, attempt);
+    before = lent;
+    uint32_t refusal = perform(&lent, attempt, &beside);
+    bool unchanged = memcmp(lent.port.record, before.port.record, PL022_RECORD_LENGTH) == 0 &&
+                     memcmp(lent.other.record, before.other.record, PL022_RECORD_LENGTH) == 0 &&
+                     memcmp(lent.input, before.input, BUFFER) == 0 &&
+                     memcmp(lent.output, before.output, BUFFER) == 0;
+    printf("  %-41s %2" PRIu32 ", %s; %s\n", attempt->what, refusal, refusal_text(refusal),
+           unchanged ? "nothing changed" : "CHANGED");
+    if (refusal != attempt->refusal || beside != 0 || !unchanged) {
+        fflush(stdout);
+        fprintf(stderr, "board: %s: expected refusal %" PRIu32 " with 0 and nothing changed\n",
+                attempt->what, attempt->refusal);
+        exit(EXIT_FAILURE);
+    }
+}
+
+/* The change that was refused with 5 above, in the order that is accepted. */
+static void show_right_order(void)
+{
+    static const struct settings settings = { FORMAT_MOTOROLA, 0, 0, 8, 12, 0, 0 };
+    struct port port;
+
+    port_reset(&port, "device");
+    port_setup(&port, &settings, 0);
+    port_enable(&port);
+    port_disable(&port);
+    port_write(&port, PL022_CPSR, 14);
+    port_write(&port, PL022_CR1, CR1_MS);
+    port_enable(&port);
+    uint32_t cpsr = port_read(&port, PL022_CPSR), cr1 = port_read(&port, PL022_CR1);
+    printf("  after 5: SSE cleared by a write of its own, then CPSR 14, MS and SSE: done; "
+           "CPSR %" PRIu32 ", CR1 %" PRIX32 "\n", cpsr, cr1);
+    if (cpsr != 14 || cr1 != (CR1_MS | CR1_SSE)) {
+        fflush(stdout);
+        fprintf(stderr, "board: CPSR or CR1 not as written\n");
+        exit(EXIT_FAILURE);
+    }
+}
+
+unsigned show_refusals(void)
+{
+    unsigned count = sizeof attempts / sizeof attempts[0];
+
+    printf("Refusals, provoked on purpose\n");
+    for (unsigned i = 0; i < count; i++)
+        show(&attempts[i]);
+    show_right_order();
+    return count;
+}

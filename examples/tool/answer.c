@@ -1,0 +1,108 @@
+#include "answer.h"
+
+#include <inttypes.h>
+
+#include "record.h"
+
+static unsigned little_endian_16(const uint8_t *bytes)
+{
+    return bytes[0] | (unsigned)bytes[1] << 8;
+}
+
+static uint32_t little_endian_32(const uint8_t *bytes)
+{
+    return little_endian_16(bytes) | (uint32_t)little_endian_16(bytes + 2) << 16;
+}
+
+static void put_queue(FILE *out, const uint8_t *places, unsigned count)
+{
+    for (unsigned n = 0; n < count; n++) {
+        fprintf(out, n == 0 ? "%x" : ",%x", little_endian_16(places + 2 * n));
+    }
+}
+
+static void put_dump(FILE *out, const uint8_t *record)
+{
+    fprintf(out, "cr0=%x cr1=%x cpsr=%x imsc=%x dmacr=%x",
+            little_endian_16(record + AT_CR0), record[AT_CR1], record[AT_CPSR],
+            record[AT_IMSC], record[AT_DMACR]);
+    fputs(" tx=", out);
+    put_queue(out, record + AT_TX_QUEUE, record[AT_TX_COUNT]);
+    fputs(" rx=", out);
+    put_queue(out, record + AT_RX_QUEUE, record[AT_RX_COUNT]);
+    fprintf(out, " ror=%u rt=%u rtcount=%" PRIu32 " frame=%u lines=%x\n",
+            record[AT_ROR], record[AT_RT], little_endian_32(record + AT_RT_COUNT),
+            record[AT_FRAME], record[PL022_RECORD_LINES]);
+}
+
+static void put_output(FILE *out, const struct recording *recording)
+{
+    if (recording->cycles == 0) {
+        putc('-', out);
+    }
+    for (size_t n = 0; n < recording->cycles; n++) {
+        putc("0123456789abcdef"[recording->levels[n] & OUTPUT_LEVELS], out);
+    }
+}
+
+static enum answer_status answer_run(const struct command *command, struct bench *bench, FILE *out)
+{
+    const struct recording *recording = &bench->recording[command->device];
+    bool to_idle = command->verb == VERB_IDLE;
+    uint64_t refusal;
+    if (!bench_run(bench, command->device, command->input, command->cycles, to_idle, &refusal)) {
+        return ANSWER_NO_MEMORY;
+    }
+    fprintf(out, "%" PRIu64 " ", refusal);
+    if (to_idle) {
+        fprintf(out, "%zu ", recording->cycles);
+    }
+    put_output(out, recording);
+    putc('\n', out);
+    return ANSWER_GIVEN;
+}
+
+static enum answer_status answer_pair(const struct command *command, struct bench *bench, FILE *out)
+{
+    uint64_t refusal;
+    if (!bench_pair(bench, command->cycles, &refusal)) {
+        return ANSWER_NO_MEMORY;
+    }
+    if (refusal != PL022_DONE) {
+        return ANSWER_PAIR_REFUSED;
+    }
+    put_output(out, &bench->recording[0]);
+    putc(' ', out);
+    put_output(out, &bench->recording[1]);
+    putc('\n', out);
+    return ANSWER_GIVEN;
+}
+
+enum answer_status answer(const struct command *command, struct bench *bench, FILE *out)
+{
+    uint8_t *record = bench->record[command->device];
+    bench_next(bench);
+    switch (command->verb) {
+    case VERB_RESET:
+        fprintf(out, "%" PRIu32 "\n", pl022_reset(record, PL022_RECORD_LENGTH));
+        break;
+    case VERB_READ: {
+        struct pl022_word read = pl022_read(record, PL022_RECORD_LENGTH, command->offset);
+        fprintf(out, "%" PRIu32 " %" PRIx32 "\n", read.refusal, read.word);
+        break;
+    }
+    case VERB_WRITE:
+        fprintf(out, "%" PRIu32 "\n",
+                pl022_write(record, PL022_RECORD_LENGTH, command->offset, command->value));
+        break;
+    case VERB_RUN:
+    case VERB_IDLE:
+        return answer_run(command, bench, out);
+    case VERB_PAIR:
+        return answer_pair(command, bench, out);
+    case VERB_DUMP:
+        put_dump(out, record);
+        break;
+    }
+    return ANSWER_GIVEN;
+}

@@ -1,0 +1,244 @@
+#include "command.h"
+
+#include <stdarg.h>
+#include <stdbool.h>
+#include <stdio.h>
+#include <string.h>
+
+#include "bench.h"
+
+enum { MOST_WORDS = 4, NOT_A_DIGIT = 16 };
+
+struct word {
+    char *text;
+    size_t length;
+};
+
+/* A word as a message shows it: cut short, and without bytes that upset a terminal. */
+struct quoted {
+    char text[28];
+};
+
+static const struct form {
+    const char *name;
+    enum verb verb;
+    size_t words;
+    const char *usage;
+} forms[] = {
+    {"reset", VERB_RESET, 2, "reset D"},
+    {"r", VERB_READ, 3, "r D OFFSET"},
+    {"w", VERB_WRITE, 4, "w D OFFSET VALUE"},
+    {"run", VERB_RUN, 3, "run D INPUTS"},
+    {"idle", VERB_IDLE, 3, "idle D INPUTS"},
+    {"pair", VERB_PAIR, 2, "pair N"},
+    {"dump", VERB_DUMP, 2, "dump D"},
+};
+
+static bool is_blank(char byte)
+{
+    return byte == ' ' || byte == '\t';
+}
+
+static struct quoted quote(const struct word *word)
+{
+    enum { SHOWN = 24 };
+    struct quoted quoted;
+    size_t n = 0;
+    for (; n < word->length && n < SHOWN; n++) {
+        char byte = word->text[n];
+        quoted.text[n] = byte > ' ' && byte < 127 ? byte : '?';
+    }
+    strcpy(quoted.text + n, word->length > SHOWN ? "..." : "");
+    return quoted;
+}
+
+/* Always false, so that a check can return it. */
+static bool complain(struct complaint *complaint, const char *format, ...)
+{
+    va_list arguments;
+    va_start(arguments, format);
+    vsnprintf(complaint->text, sizeof complaint->text, format, arguments);
+    va_end(arguments);
+    return false;
+}
+
+/* The number of words, which may be more than are kept. */
+static size_t split(char *line, size_t length, struct word words[MOST_WORDS])
+{
+    size_t count = 0;
+    for (size_t at = 0; at < length;) {
+        if (is_blank(line[at])) {
+            at++;
+            continue;
+        }
+        size_t start = at;
+        while (at < length && !is_blank(line[at])) {
+            at++;
+        }
+        if (count < MOST_WORDS) {
+            words[count] = (struct word){line + start, at - start};
+        }
+        count++;
+    }
+    return count;
+}
+
+/* Plain comparisons: what counts as a digit must not depend on the locale. */
+static unsigned digit_value(char byte)
+{
+    if (byte >= '0' && byte <= '9') {
+        return (unsigned)(byte - '0');
+    }
+    if (byte >= 'a' && byte <= 'f') {
+        return (unsigned)(byte - 'a') + 10U;
+    }
+    if (byte >= 'A' && byte <= 'F') {
+        return (unsigned)(byte - 'A') + 10U;
+    }
+    return NOT_A_DIGIT;
+}
+
+/* The place of the first byte that is no digit of the base, or the word's length. */
+static size_t digits(const struct word *word, unsigned base)
+{
+    size_t n = 0;
+    while (n < word->length && digit_value(word->text[n]) < base) {
+        n++;
+    }
+    return n;
+}
+
+static bool parse_device(const struct word *word, unsigned *device, struct complaint *complaint)
+{
+    if (word->length != 1 || (word->text[0] != '0' && word->text[0] != '1')) {
+        return complain(complaint, "device '%s': expected 0 or 1", quote(word).text);
+    }
+    *device = word->text[0] == '1';
+    return true;
+}
+
+static bool parse_hex(const char *what, const struct word *word, uint32_t *number,
+                      struct complaint *complaint)
+{
+    if (digits(word, 16) < word->length) {
+        return complain(complaint,
+                        "%s '%s' is not hexadecimal: expected digits 0 to 9 and a to f, "
+                        "no prefix and no sign", what, quote(word).text);
+    }
+    uint32_t sum = 0;
+    for (size_t n = 0; n < word->length; n++) {
+        if (sum > UINT32_MAX >> 4) {
+            return complain(complaint, "%s '%s' is above 32 bits: expected ffffffff or less",
+                            what, quote(word).text);
+        }
+        sum = sum << 4 | digit_value(word->text[n]);
+    }
+    *number = sum;
+    return true;
+}
+
+static bool too_many_cycles(struct complaint *complaint)
+{
+    return complain(complaint, "too many cycles: expected %lu or less in a command",
+                    (unsigned long)MOST_CYCLES);
+}
+
+static bool parse_cycles(const struct word *word, size_t *cycles, struct complaint *complaint)
+{
+    if (digits(word, 10) < word->length) {
+        return complain(complaint,
+                        "number of cycles '%s' is not decimal: expected digits 0 to 9, no sign",
+                        quote(word).text);
+    }
+    size_t sum = 0;
+    for (size_t n = 0; n < word->length; n++) {
+        sum = sum * 10 + digit_value(word->text[n]);
+        if (sum > MOST_CYCLES) {
+            return too_many_cycles(complaint);
+        }
+    }
+    *cycles = sum;
+    return true;
+}
+
+/* Digits above 7 pass: refusing them is the library's part. */
+static bool parse_recording(const struct word *word, struct command *command,
+                            struct complaint *complaint)
+{
+    uint8_t *input = (uint8_t *)word->text;
+    bool none = word->length == 1 && word->text[0] == '-';
+    size_t cycles = none ? 0 : word->length;
+    size_t good = none ? 0 : digits(word, 16);
+    if (good < cycles) {
+        struct word bad = {word->text + good, 1};
+        return complain(complaint,
+                        "'%s' at place %zu of the recording: expected a hexadecimal digit for "
+                        "each cycle, or - alone", quote(&bad).text, good + 1);
+    }
+    if (cycles > MOST_CYCLES) {
+        return too_many_cycles(complaint);
+    }
+    for (size_t n = 0; n < cycles; n++) {
+        input[n] = (uint8_t)digit_value(word->text[n]);
+    }
+    command->input = input;
+    command->cycles = cycles;
+    return true;
+}
+
+static const struct form *find_form(const struct word *word)
+{
+    for (size_t n = 0; n < sizeof forms / sizeof forms[0]; n++) {
+        size_t length = strlen(forms[n].name);
+        if (word->length == length && memcmp(word->text, forms[n].name, length) == 0) {
+            return &forms[n];
+        }
+    }
+    return NULL;
+}
+
+static bool parse_words(const struct word *words, struct command *command,
+                        struct complaint *complaint)
+{
+    if (command->verb == VERB_PAIR) {
+        return parse_cycles(&words[1], &command->cycles, complaint);
+    }
+    if (!parse_device(&words[1], &command->device, complaint)) {
+        return false;
+    }
+    switch (command->verb) {
+    case VERB_READ:
+        return parse_hex("offset", &words[2], &command->offset, complaint);
+    case VERB_WRITE:
+        return parse_hex("offset", &words[2], &command->offset, complaint)
+            && parse_hex("value", &words[3], &command->value, complaint);
+    case VERB_RUN:
+    case VERB_IDLE:
+        return parse_recording(&words[2], command, complaint);
+    default:
+        return true;
+    }
+}
+
+enum parse_status command_parse(char *line, size_t length, struct command *command,
+                                struct complaint *complaint)
+{
+    struct word words[MOST_WORDS] = {{NULL, 0}};
+    size_t count = split(line, length, words);
+    if (count == 0 || words[0].text[0] == '#') {
+        return PARSE_NOTHING;
+    }
+    const struct form *form = find_form(&words[0]);
+    if (form == NULL) {
+        complain(complaint,
+                 "unknown command '%s': expected reset, r, w, run, idle, pair or dump",
+                 quote(&words[0]).text);
+        return PARSE_BAD;
+    }
+    if (count != form->words) {
+        complain(complaint, "wrong number of words, %zu: expected %s", count, form->usage);
+        return PARSE_BAD;
+    }
+    *command = (struct command){.verb = form->verb};
+    return parse_words(words, command, complaint) ? PARSE_COMMAND : PARSE_BAD;
+}

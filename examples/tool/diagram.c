@@ -1,0 +1,145 @@
+#include "diagram.h"
+
+#include <inttypes.h>
+#include <stdlib.h>
+
+/*
+ * A cycle is two columns: the edge against the cycle before, then the level. With
+ * one column a clock of one cycle a slot would have no visible edges.
+ */
+enum {
+    CYCLE_COLUMNS = 2,
+    RULER_STEP = 5,    /* cycles from one number to the next: 10 columns, room for 2^24 */
+    LABEL_COLUMNS = 11,
+    USUAL_COLUMNS = 80,
+    LEAST_COLUMNS = 40,
+    MOST_COLUMNS = 1000
+};
+
+struct strokes {
+    const char *driven[2];   /* LOW, HIGH */
+    const char *released[2]; /* TXD while nSSPOE is HIGH: dotted, at the same heights */
+    const char *fall;
+    const char *rise;
+};
+
+static const struct strokes ascii_strokes = {{"_", "-"}, {".", "'"}, "\\", "/"};
+
+/* Lower and upper eighth blocks, Braille dots at the bottom and the top, diagonals. */
+static const struct strokes unicode_strokes = {
+    {"\xE2\x96\x81", "\xE2\x96\x94"},
+    {"\xE2\xA3\x80", "\xE2\xA0\x89"},
+    "\xE2\x95\xB2",
+    "\xE2\x95\xB1",
+};
+
+static const struct row {
+    const char *name;
+    enum line_number line;
+} rows[] = {
+    {"CLK in", LINE_CLK_IN},
+    {"FSS in", LINE_FSS_IN},
+    {"RXD", LINE_RXD},
+    {"CLK", LINE_CLK},
+    {"FSS", LINE_FSS},
+    {"TXD", LINE_TXD},
+    {"nSSPOE", LINE_NSSPOE},
+};
+
+unsigned diagram_columns(void)
+{
+    const char *text = getenv("COLUMNS");
+    if (text == NULL || text[0] < '1' || text[0] > '9') {
+        return USUAL_COLUMNS;
+    }
+    char *end;
+    unsigned long columns = strtoul(text, &end, 10);
+    bool sane = *end == '\0' && columns >= LEAST_COLUMNS && columns <= MOST_COLUMNS;
+    return sane ? (unsigned)columns : USUAL_COLUMNS;
+}
+
+/* Whole steps of the ruler, so that each block begins with a number. */
+static size_t cycles_in_block(unsigned columns)
+{
+    size_t cycles = (columns - LABEL_COLUMNS) / CYCLE_COLUMNS;
+    return cycles - cycles % RULER_STEP;
+}
+
+static void draw_ruler(size_t first, size_t end, FILE *out)
+{
+    fprintf(out, "  %-*s", LABEL_COLUMNS - 2, "cycle");
+    for (size_t n = first; n < end; n += RULER_STEP) {
+        bool last = end - n <= RULER_STEP;
+        fprintf(out, "%-*zu", last ? 0 : RULER_STEP * CYCLE_COLUMNS, n);
+    }
+    putc('\n', out);
+}
+
+static void draw_cycle(const struct strokes *strokes, enum line_number line, unsigned before,
+                       unsigned now, FILE *out)
+{
+    unsigned old = before >> line & 1U;
+    unsigned level = now >> line & 1U;
+    bool released = line == LINE_TXD && (now >> LINE_NSSPOE & 1U) != 0;
+    const char *flat = released ? strokes->released[level] : strokes->driven[level];
+    const char *edge = level > old ? strokes->rise : strokes->fall;
+    fputs(old == level ? flat : edge, out);
+    fputs(flat, out);
+}
+
+static void draw_row(const struct strokes *strokes, unsigned device, const struct row *row,
+                     const struct recording *recording, size_t first, size_t end, FILE *out)
+{
+    unsigned before = first == 0 ? recording->before : recording->levels[first - 1];
+    fprintf(out, "  %u %-*s", device, LABEL_COLUMNS - 4, row->name);
+    for (size_t n = first; n < end; n++) {
+        draw_cycle(strokes, row->line, before, recording->levels[n], out);
+        before = recording->levels[n];
+    }
+    putc('\n', out);
+}
+
+static bool inputs_are_low(const struct recording *recording)
+{
+    for (size_t n = 0; n < recording->cycles; n++) {
+        if ((recording->levels[n] & ~OUTPUT_LEVELS) != 0) {
+            return false;
+        }
+    }
+    return true;
+}
+
+static void draw_block(const struct strokes *strokes, const struct bench *bench,
+                       const bool with_inputs[DEVICES], size_t first, size_t end, FILE *out)
+{
+    draw_ruler(first, end, out);
+    for (unsigned device = 0; device < DEVICES; device++) {
+        const struct recording *recording = &bench->recording[device];
+        for (size_t n = 0; recording->cycles > 0 && n < sizeof rows / sizeof rows[0]; n++) {
+            if (rows[n].line < LINE_CLK_IN || with_inputs[device]) {
+                draw_row(strokes, device, &rows[n], recording, first, end, out);
+            }
+        }
+    }
+}
+
+void diagram_draw(const struct diagram *diagram, const struct bench *bench, uint64_t time,
+                  FILE *out)
+{
+    const struct strokes *strokes = diagram->ascii ? &ascii_strokes : &unicode_strokes;
+    const struct recording *recording = bench->recording;
+    bool pair = recording[0].cycles > 0 && recording[1].cycles > 0;
+    size_t cycles = bench_cycles(bench);
+    if (cycles == 0) {
+        return;
+    }
+    /* In a pair each input is the other's output a cycle earlier: drawn already. */
+    bool with_inputs[DEVICES] = {!pair && !inputs_are_low(&recording[0]),
+                                 !pair && !inputs_are_low(&recording[1])};
+    fprintf(out, "  time %" PRIu64 ", %zu cycle%s\n", time, cycles, cycles == 1 ? "" : "s");
+    size_t step = cycles_in_block(diagram->columns);
+    for (size_t first = 0; first < cycles; first += step) {
+        size_t end = cycles - first < step ? cycles : first + step;
+        draw_block(strokes, bench, with_inputs, first, end, out);
+    }
+}

@@ -1,0 +1,27 @@
+/* diagram.h: the recordings of one command as a timing diagram of characters. */
+#ifndef DIAGRAM_H
+#define DIAGRAM_H
+
+#include <stdbool.h>
+#include <stdint.h>
+#include <stdio.h>
+
+#include "bench.h"
+
+struct diagram {
+    bool ascii;       /* plain ASCII instead of line drawing characters */
+    unsigned columns; /* width of the terminal */
+};
+
+/* The width from the environment's COLUMNS if that is sane, otherwise 80. */
+unsigned diagram_columns(void);
+
+/*
+ * Draws what ran; nothing if no cycle did. Every line begins with a blank, which no
+ * answer does, so that both can be told apart. The time is that of the first cycle,
+ * counted from the script's first one.
+ */
+void diagram_draw(const struct diagram *diagram, const struct bench *bench, uint64_t time,
+                  FILE *out);
+
+#endif

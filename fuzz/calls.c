@@ -1,0 +1,141 @@
+#include "calls.h"
+
+#include <string.h>
+
+#include "arena.h"
+#include "report.h"
+
+#define ROLE(role) (1U << (role))
+#define LINES (ROLE(ROLE_INPUT) | ROLE(ROLE_OUTPUT))
+#define NUMBERS(low, high) ((1U << ((high) + 1)) - (1U << (low)))
+#define NUMBER(n) NUMBERS(n, n)
+
+static const struct {
+    const char *name;
+    unsigned roles;
+    unsigned refusals;
+} facts[CALLS] = {
+    [CALL_RESET] = {"reset", ROLE(ROLE_RECORD), NUMBER(0) | NUMBER(10)},
+    [CALL_READ] = {"read", ROLE(ROLE_RECORD), NUMBERS(0, 3) | NUMBERS(8, 10)},
+    [CALL_WRITE] = {"write", ROLE(ROLE_RECORD), NUMBERS(0, 7) | NUMBERS(9, 10)},
+    [CALL_RUN] = {"run", ROLE(ROLE_RECORD) | LINES, NUMBER(0) | NUMBERS(9, 12)},
+    [CALL_RUN_TO_IDLE] = {"run_to_idle", ROLE(ROLE_RECORD) | LINES, NUMBER(0) | NUMBERS(9, 12)},
+    [CALL_PAIR_RUN] = {"pair_run", ROLE(ROLE_RECORD) | ROLE(ROLE_SECOND),
+                       NUMBER(0) | NUMBERS(9, 10)},
+};
+
+const char *call_name(enum call call)
+{
+    return facts[call].name;
+}
+
+const char *role_name(enum role role)
+{
+    static const char *const names[ROLES] = {"record", "second", "input", "output"};
+    return names[role];
+}
+
+bool call_lends(enum call call, enum role role)
+{
+    return (facts[call].roles & ROLE(role)) != 0;
+}
+
+bool call_may_answer(enum call call, uint64_t refusal)
+{
+    return refusal < REFUSALS && (facts[call].refusals >> refusal & 1) != 0;
+}
+
+bool call_runs_lines(enum call call)
+{
+    return call_lends(call, ROLE_INPUT);
+}
+
+static void pass(const struct request *request, const struct loan loans[ROLES],
+                 struct outcome *outcome)
+{
+    const struct loan *record = &loans[ROLE_RECORD];
+    const struct loan *second = &loans[ROLE_SECOND];
+    const struct loan *input = &loans[ROLE_INPUT];
+    const struct loan *output = &loans[ROLE_OUTPUT];
+    struct pl022_word word = {0, 0};
+    struct pl022_count count = {0, 0};
+
+    switch (request->call) {
+    case CALL_RESET:
+        word.refusal = pl022_reset(record->bytes, record->length);
+        break;
+    case CALL_READ:
+        word = pl022_read(record->bytes, record->length, request->offset);
+        break;
+    case CALL_WRITE:
+        word.refusal = pl022_write(record->bytes, record->length, request->offset, request->value);
+        break;
+    case CALL_RUN:
+        word.refusal = pl022_run(record->bytes, record->length, input->bytes, input->length,
+                                 output->bytes, output->length);
+        break;
+    case CALL_RUN_TO_IDLE:
+        count = pl022_run_to_idle(record->bytes, record->length, input->bytes, input->length,
+                                  output->bytes, output->length);
+        break;
+    default:
+        word.refusal = pl022_pair_run(record->bytes, record->length,
+                                      second->bytes, second->length, request->cycles);
+        break;
+    }
+    outcome->refusal = word.refusal + count.refusal;
+    outcome->result = word.word + count.count;
+}
+
+void call_make(const struct request *request, struct outcome *outcome)
+{
+    uint8_t stack[ROLES][STACK_LIMIT];
+    struct loan loans[ROLES];
+
+    memset(loans, 0, sizeof loans);
+    report_call(request);
+    for (unsigned role = 0; role < ROLES; role++) {
+        if (call_lends(request->call, role)) {
+            arena_lend(&loans[role], role, &request->lent[role], stack[role]);
+        }
+    }
+    pass(request, loans, outcome);
+    for (unsigned role = 0; role < ROLES; role++) {
+        bytes_set(&outcome->after[role], loans[role].bytes, loans[role].length);
+    }
+    report_answer(outcome);
+    for (unsigned role = 0; role < ROLES; role++) {
+        if (call_lends(request->call, role)) {
+            report_unless(arena_intact(&loans[role]), "a byte beside a lent buffer changed");
+            arena_take_back(&loans[role]);
+        }
+    }
+}
+
+void bytes_set(struct bytes *bytes, const uint8_t *data, size_t length)
+{
+    bytes->length = length;
+    /* With length 0 the data may stand where nothing may be touched, or nowhere. */
+    if (length > 0) {
+        memcpy(bytes->data, data, length);
+    }
+}
+
+bool bytes_equal(const struct bytes *one, const struct bytes *other)
+{
+    return one->length == other->length && memcmp(one->data, other->data, one->length) == 0;
+}
+
+void request_copy(struct request *to, const struct request *from)
+{
+    to->call = from->call;
+    to->offset = from->offset;
+    to->value = from->value;
+    to->cycles = from->cycles;
+    to->served_before = from->served_before;
+    for (unsigned role = 0; role < ROLES; role++) {
+        if (call_lends(from->call, role)) {
+            bytes_set(&to->lent[role], from->lent[role].data, from->lent[role].length);
+        }
+    }
+}

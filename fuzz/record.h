@@ -1,0 +1,41 @@
+/*
+ * record.h: the bytes of a device record, as docs/RECORD.md lays them out.
+ */
+#ifndef FUZZ_RECORD_H
+#define FUZZ_RECORD_H
+
+#include <stdbool.h>
+#include <stdint.h>
+
+#include "pl022.h"
+
+/* Places of the bytes that the checks look at. */
+enum { AT_CR0 = 0, AT_CR1 = 2, AT_CPSR = 3, AT_RECEIVED = 29 };
+
+enum { FORMATS = 3, LEAST_DSS = 3 };
+
+unsigned record_format(const uint8_t *record);
+unsigned record_dss(const uint8_t *record);
+
+/* FRF below 3 and DSS at least 3. */
+bool cr0_permitted(uint32_t cr0);
+
+/* A permitted CR0 with this SCR. */
+uint32_t draw_cr0(uint32_t scr);
+
+/* Rules S1 to S15. */
+bool record_sound(const uint8_t *record);
+
+/* The record after reset. */
+void record_after_reset(uint8_t *record);
+
+/* A sound record with fields at, near and far from their limits. */
+void record_forge(uint8_t *record);
+
+/* Lifts one field to one above its limit, or breaks another rule, where that is possible. */
+void record_overstep(uint8_t *record);
+
+/* Changes one bit or one byte. */
+void record_damage(uint8_t *record);
+
+#endif

@@ -1,0 +1,162 @@
+#include "relate.h"
+
+#include <string.h>
+
+#include "draw.h"
+#include "promise.h"
+#include "record.h"
+#include "report.h"
+
+/* A pair is followed cycle by cycle only if it is short, since each cycle takes two calls. */
+enum { FOLLOWED_CYCLES = 48 };
+
+static struct request part;
+static struct outcome one;
+static struct outcome two;
+
+/* Reports the call that the others were compared with, not the last of these. */
+static void agree(bool same, const struct request *request, const struct outcome *outcome,
+                  const char *what)
+{
+    if (!same) {
+        report_call(request);
+        report_answer(outcome);
+        report_failure(what);
+    }
+}
+
+static bool same_records(const struct request *request, const struct outcome *left,
+                         const struct outcome *right)
+{
+    return bytes_equal(&left->after[ROLE_RECORD], &right->after[ROLE_RECORD])
+        && (!call_lends(request->call, ROLE_SECOND)
+            || bytes_equal(&left->after[ROLE_SECOND], &right->after[ROLE_SECOND]));
+}
+
+/* The same call elsewhere in memory. The output buffer's old bytes may not matter. */
+static void repeat(const struct request *request, const struct outcome *outcome)
+{
+    size_t written = 0;
+
+    request_copy(&part, request);
+    if (call_runs_lines(request->call)) {
+        draw_bytes(part.lent[ROLE_OUTPUT].data, part.lent[ROLE_OUTPUT].length);
+        written = outcome->refusal == PL022_DONE ? cycles_written(request, outcome) : 0;
+    }
+    judge(&part, &one);
+    agree(one.refusal == outcome->refusal && one.result == outcome->result
+          && same_records(request, &one, outcome)
+          && memcmp(one.after[ROLE_OUTPUT].data, outcome->after[ROLE_OUTPUT].data, written) == 0,
+          request, outcome, "the same call on a copy gave something else");
+}
+
+static void run_part(const uint8_t *record, const uint8_t *input, size_t cycles,
+                     struct outcome *outcome)
+{
+    part.call = CALL_RUN;
+    part.served_before = true;
+    bytes_set(&part.lent[ROLE_RECORD], record, PL022_RECORD_LENGTH);
+    bytes_set(&part.lent[ROLE_INPUT], input, cycles);
+    part.lent[ROLE_OUTPUT].length = cycles;
+    draw_bytes(part.lent[ROLE_OUTPUT].data, cycles);
+    judge(&part, outcome);
+}
+
+/* A run, or the run that a run to idle made, in two parts. */
+static void split_run(const struct request *request, const struct outcome *outcome)
+{
+    const uint8_t *input = request->lent[ROLE_INPUT].data;
+    const uint8_t *output = outcome->after[ROLE_OUTPUT].data;
+    size_t cycles = cycles_written(request, outcome);
+    size_t head = draw_between(0, (uint32_t)cycles);
+
+    run_part(request->lent[ROLE_RECORD].data, input, head, &one);
+    run_part(one.after[ROLE_RECORD].data, input + head, cycles - head, &two);
+    agree(same_records(&part, &two, outcome)
+          && memcmp(one.after[ROLE_OUTPUT].data, output, head) == 0
+          && memcmp(two.after[ROLE_OUTPUT].data, output + head, cycles - head) == 0,
+          request, outcome, "a run in two parts gave something else");
+}
+
+static void idle_as_run(const struct request *request, const struct outcome *outcome)
+{
+    size_t cycles = cycles_written(request, outcome);
+
+    run_part(request->lent[ROLE_RECORD].data, request->lent[ROLE_INPUT].data, cycles, &one);
+    agree(same_records(&part, &one, outcome)
+          && memcmp(one.after[ROLE_OUTPUT].data, outcome->after[ROLE_OUTPUT].data, cycles) == 0,
+          request, outcome, "a run to idle is no run of its count");
+}
+
+static void pair_part(const uint8_t *first, const uint8_t *second, uint64_t cycles,
+                      struct outcome *outcome)
+{
+    part.call = CALL_PAIR_RUN;
+    part.served_before = true;
+    part.cycles = cycles;
+    bytes_set(&part.lent[ROLE_RECORD], first, PL022_RECORD_LENGTH);
+    bytes_set(&part.lent[ROLE_SECOND], second, PL022_RECORD_LENGTH);
+    judge(&part, outcome);
+}
+
+static void split_pair(const struct request *request, const struct outcome *outcome)
+{
+    uint64_t head = draw_between(0, (uint32_t)request->cycles);
+
+    pair_part(request->lent[ROLE_RECORD].data, request->lent[ROLE_SECOND].data, head, &one);
+    pair_part(one.after[ROLE_RECORD].data, one.after[ROLE_SECOND].data,
+              request->cycles - head, &two);
+    agree(same_records(request, &two, outcome),
+          request, outcome, "a pair run in two parts gave something else");
+}
+
+static void swap_pair(const struct request *request, const struct outcome *outcome)
+{
+    pair_part(request->lent[ROLE_SECOND].data, request->lent[ROLE_RECORD].data,
+              request->cycles, &one);
+    agree(bytes_equal(&one.after[ROLE_RECORD], &outcome->after[ROLE_SECOND])
+          && bytes_equal(&one.after[ROLE_SECOND], &outcome->after[ROLE_RECORD]),
+          request, outcome, "a pair run depends on which device comes first");
+}
+
+/* The other device's input: CLK and FSS as driven, TXD as RXD where it is driven. */
+static uint8_t wired(const uint8_t *record)
+{
+    uint8_t lines = record[PL022_RECORD_LINES];
+    return (uint8_t)((lines & 8U) != 0 ? lines & 3U : lines & 7U);
+}
+
+static void follow_pair(const struct request *request, const struct outcome *outcome)
+{
+    if (request->cycles > FOLLOWED_CYCLES) {
+        return;
+    }
+    bytes_set(&one.after[ROLE_RECORD], request->lent[ROLE_RECORD].data, PL022_RECORD_LENGTH);
+    bytes_set(&two.after[ROLE_RECORD], request->lent[ROLE_SECOND].data, PL022_RECORD_LENGTH);
+    for (uint64_t cycle = 0; cycle < request->cycles; cycle++) {
+        uint8_t to_first = wired(two.after[ROLE_RECORD].data);
+        uint8_t to_second = wired(one.after[ROLE_RECORD].data);
+        run_part(one.after[ROLE_RECORD].data, &to_first, 1, &one);
+        run_part(two.after[ROLE_RECORD].data, &to_second, 1, &two);
+    }
+    agree(bytes_equal(&one.after[ROLE_RECORD], &outcome->after[ROLE_RECORD])
+          && bytes_equal(&two.after[ROLE_RECORD], &outcome->after[ROLE_SECOND]),
+          request, outcome, "a pair run differs from runs with the lines wired by hand");
+}
+
+void relate(const struct request *request, const struct outcome *outcome)
+{
+    static void (*const pair_relations[])(const struct request *, const struct outcome *) = {
+        split_pair, swap_pair, follow_pair
+    };
+
+    if (outcome->refusal != PL022_DONE || draw_one_in(3)) {
+        repeat(request, outcome);
+    } else if (request->call == CALL_RUN_TO_IDLE && draw_one_in(2)) {
+        idle_as_run(request, outcome);
+    } else if (call_runs_lines(request->call)) {
+        split_run(request, outcome);
+    } else if (request->call == CALL_PAIR_RUN) {
+        pair_relations[draw_below(3)](request, outcome);
+    }
+}

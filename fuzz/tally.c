@@ -1,0 +1,129 @@
+#include "tally.h"
+
+#include <inttypes.h>
+#include <stdio.h>
+
+#include "record.h"
+
+enum { ROLES_OF_DEVICE = 2, SIZES = 16, RAW_BITS = 4 };
+
+static uint64_t calls;
+static uint64_t digest;
+static uint64_t answers[CALLS][REFUSALS];
+static uint64_t enabled_runs[FORMATS][ROLES_OF_DEVICE][SIZES];
+static uint64_t arrivals[FORMATS][ROLES_OF_DEVICE];
+static uint64_t raw_seen[RAW_BITS];
+
+/* A Microwire slave stays idle, so no word arrives in it. */
+static bool may_receive(unsigned format, unsigned slave)
+{
+    return format != FORMATS - 1 || slave == 0;
+}
+
+static void tally_run(const struct request *request, const struct outcome *outcome, enum role role)
+{
+    const uint8_t *before = request->lent[role].data;
+    const uint8_t *after = outcome->after[role].data;
+    unsigned format = record_format(before);
+    unsigned slave = (before[AT_CR1] & CR1_MS) != 0;
+
+    if ((before[AT_CR1] & CR1_SSE) == 0) {
+        return;
+    }
+    enabled_runs[format][slave][record_dss(before)]++;
+    arrivals[format][slave] += after[AT_RECEIVED] > before[AT_RECEIVED];
+}
+
+static void digest_number(uint64_t number)
+{
+    digest = (digest ^ number) * UINT64_C(0x100000001B3);
+}
+
+void tally_call(const struct request *request, const struct outcome *outcome)
+{
+    calls++;
+    answers[request->call][outcome->refusal]++;
+    digest_number((uint64_t)request->call << 8 | outcome->refusal);
+    digest_number(outcome->result);
+    if (outcome->refusal != PL022_DONE) {
+        return;
+    }
+    if (call_runs_lines(request->call)) {
+        tally_run(request, outcome, ROLE_RECORD);
+    } else if (request->call == CALL_PAIR_RUN) {
+        tally_run(request, outcome, ROLE_RECORD);
+        tally_run(request, outcome, ROLE_SECOND);
+    } else if (request->call == CALL_READ && request->offset == PL022_RIS) {
+        for (unsigned bit = 0; bit < RAW_BITS; bit++) {
+            raw_seen[bit] += outcome->result >> bit & 1;
+        }
+    }
+}
+
+uint64_t tally_calls(void)
+{
+    return calls;
+}
+
+uint64_t tally_digest(void)
+{
+    uint64_t value = digest;
+    digest = 0;
+    return value;
+}
+
+void tally_print(void)
+{
+    for (unsigned call = 0; call < CALLS; call++) {
+        printf("; %s", call_name(call));
+        for (unsigned number = 0; number < REFUSALS; number++) {
+            if (call_may_answer(call, number)) {
+                printf(" %u:%" PRIu64, number, answers[call][number]);
+            }
+        }
+    }
+    for (unsigned format = 0; format < FORMATS; format++) {
+        printf("; FRF %u words received %" PRIu64 " as master %" PRIu64 " as slave",
+               format, arrivals[format][0], arrivals[format][1]);
+    }
+}
+
+static bool formats_complete(void)
+{
+    bool complete = true;
+    for (unsigned format = 0; format < FORMATS; format++) {
+        for (unsigned slave = 0; slave < ROLES_OF_DEVICE; slave++) {
+            for (unsigned dss = LEAST_DSS; dss < SIZES; dss++) {
+                if (enabled_runs[format][slave][dss] == 0) {
+                    fprintf(stderr, "fuzz: never ran FRF %u MS %u DSS %u\n", format, slave, dss);
+                    complete = false;
+                }
+            }
+            if (arrivals[format][slave] == 0 && may_receive(format, slave)) {
+                fprintf(stderr, "fuzz: never received in FRF %u MS %u\n", format, slave);
+                complete = false;
+            }
+        }
+    }
+    return complete;
+}
+
+bool tally_complete(void)
+{
+    bool complete = formats_complete();
+    for (unsigned call = 0; call < CALLS; call++) {
+        for (unsigned number = 0; number < REFUSALS; number++) {
+            if (call_may_answer(call, number) && answers[call][number] == 0) {
+                fprintf(stderr, "fuzz: %s never answered %u\n", call_name(call), number);
+                complete = false;
+            }
+        }
+    }
+    for (unsigned bit = 0; bit < RAW_BITS; bit++) {
+        if (raw_seen[bit] == 0) {
+            fprintf(stderr, "fuzz: RIS bit %u was never read as 1\n", bit);
+            complete = false;
+        }
+    }
+    return complete;
+}
