@@ -12,26 +12,26 @@ demo: target/board
 tool: target/pl022
 
 target/loopback: examples/loopback.c
-target/bench: examples/bench.c
 target/board: $(wildcard examples/board/*.[ch])
 target/pl022: $(wildcard examples/tool/*.[ch])
-target/loopback target/bench target/board target/pl022: include/pl022.h $(LIBRARY)
+target/loopback target/board target/pl022: include/pl022.h $(LIBRARY)
 	cc $(CFLAGS) -o $@ $(filter %.c,$^) $(LIBRARY)
 
 $(LIBRARY): crates.txt $(shell find crates -name '*.rt' -o -name '*.antt')
 	rt staticlib serial
 
-# 300 million cycles, and accesses, timed.
-bench: target/bench
-	target/bench
+# The library beside the second program and memset, timed.
+bench: $(LIBRARY)
+	compare/speed.sh
 
 # The gate.
 test:
 	.ci/run
 
-# The library against the second program, call by call.
-compare:
+# The library against the second program, call by call; its recordings against sigrok's decoder.
+compare: tool
 	compare/run.sh
+	compare/sigrok.sh
 
 fmt:
 	rt fmt

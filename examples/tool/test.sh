@@ -81,16 +81,16 @@ cycles_of_vcd() {
     awk '
     function digit(n) { return substr("0123456789abcdef", n + 1, 1) }
     function line(d, a, b, c, e) {
-        return digit(v[d a] + 2 * v[d b] + 4 * v[d c] + (e == "" ? 0 : 8 * v[d e]))
+        return digit(v[a d] + 2 * v[b d] + 4 * v[c d] + (e == "" ? 0 : 8 * v[e d]))
     }
     function cycle() {
-        print line("device0.", "clk", "fss", "txd", "nsspoe"), \
-              line("device0.", "clk_in", "fss_in", "rxd", ""), \
-              line("device1.", "clk", "fss", "txd", "nsspoe"), \
-              line("device1.", "clk_in", "fss_in", "rxd", "")
+        print line(0, "clk", "fss", "txd", "nsspoe"), \
+              line(0, "clk_in", "fss_in", "rxd", ""), \
+              line(1, "clk", "fss", "txd", "nsspoe"), \
+              line(1, "clk_in", "fss_in", "rxd", "")
     }
     $1 == "$scope" { scope = $3; next }
-    $1 == "$var" { wire[$4] = scope "." $5; next }
+    $1 == "$var" { wire[$4] = scope == "device" substr($5, length($5)) ? $5 : "lost"; next }
     /^#/ {
         next_time = substr($0, 2) + 0
         if (stamps++ > 0 && next_time <= time) print "time does not advance"

@@ -92,7 +92,8 @@ void vcd_begin(struct vcd *vcd, FILE *file, const struct bench *bench)
         vcd->levels[device] = bench_last_levels(bench, device);
         put(vcd, "$scope module device%u $end\n", device);
         for (unsigned wire = 0; wire < WIRES; wire++) {
-            put(vcd, "$var wire 1 %c %s $end\n", identifier(device, wire), wires[wire].name);
+            put(vcd, "$var wire 1 %c %s%u $end\n", identifier(device, wire), wires[wire].name,
+                device);
         }
         put(vcd, "$upscope $end\n");
     }
