@@ -21,6 +21,7 @@ pub mod MicrowireWords
 pub mod Recorded
 pub mod Enabled
 pub mod Free
+pub mod Window
 
 -- Slots for n preloaded words, idle ones included: n(2b+4) for Motorola SPH 0, 2bn+4 for SPH 1, 2bn+2 for TI, n(2b+18)+3 for Microwire.
 abbrev pub totalOn : Format → Bool → ℕ → ℕ → ℕ

@@ -177,9 +177,9 @@ pub record Enabling (s : Settings) (d : DeviceModel) (o v : ℕ) : Type 0 where
   pub enabled : s .enabled ≡ true
   pub master : s .slave ≡ false
 
--- The cycles of a load from enabling to its last idle slot: the slot total times h.
+-- As many cycles as a load needs from enabling to its last idle slot, the slot total times h, or more.
 abbrev pub WholeLoad : Settings → DeviceModel → List Pins → Type 0
-WholeLoad s d ps = length ps ≡ slotTotal s (length (d .registers .tx)) * s .half
+WholeLoad s d ps = slotTotal s (length (d .registers .tx)) * s .half ≤ length ps
 
 -- For given master settings, no frame in progress at enabling and no access after it: two loads that give the same output bytes
 -- from enabling to the last idle slot, whatever the input pins carry, are equal after cutting to b bits, Microwire to 8.

@@ -1,10 +1,10 @@
 -- The recording of a master alone is the drawing of its load, whatever its input pins carry; so equal recordings are of loads that are equal after cutting.
-use Prim.Native.Nat.{ℕ, _*_, _≤_, _<_}
+use Prim.Native.Nat.{ℕ, zero, suc, _+_, _-_, _*_, _≤_, _<_}
 use mathlib.Core.Path.{_≡_, refl, sym, ap, ap₂, _∙_, subst}
 use mathlib.Core.Bool.{Bool, true, false}
-use mathlib.Core.List.{List, [], _∷_, map}
+use mathlib.Core.List.{List, [], _∷_, _++_, map}
 use native.Mathlib.Omega.{arith}
-use lib.ListN.{length}
+use lib.ListN.{length, length-append, replicate, length-replicate}
 use Rattle.registers.specs.Settings.{settingsOf}
 use Rattle.registers.specs.Time.{cycles, slots}
 use Rattle.registers.specs.declared.settings.Format.{Format}
@@ -13,16 +13,19 @@ use Rattle.registers.specs.declared.settings.Settings.{Settings}
 use Rattle.serial.specs.Bits.{cut}
 use Rattle.serial.specs.Engine.{clearShift}
 use Rattle.serial.specs.Slots.{widthOf}
-use Rattle.serial.specs.Lines.{byteOf}
+use Rattle.serial.specs.Lines.{byteOf, masterLines}
+use Rattle.serial.specs.Master.{resting, acting, masterStep, masterEnd}
 use Rattle.serial.specs.Cycle.{DeviceModel}
-use Rattle.serial.specs.Alone.{slotTotal, drawingOn, drawing, stretch, recording}
-use Rattle.serial.specs.Alone.Told.{Serves, told, bytes-told, stretch-told, length-stretch, length-drawing}
-use Rattle.serial.specs.Alone.Solo.{bare, bareShift, Goes, recording-goes}
-use Rattle.serial.specs.Alone.Slot.{fixed, solo, restAt, Draws, draws-goes, over-draws, last-draws, until-draws}
+use Rattle.serial.specs.Alone.{slotTotal, idle, drawingOn, drawing, stretch, recording}
+use Rattle.serial.specs.Alone.Told.{Serves, bytes-told, length-stretch, length-drawing}
+use Rattle.serial.specs.Alone.Solo.{bare, bareShift, moves, acted, cycle, Goes, none, more, recording-goes}
+use Rattle.serial.specs.Alone.Slot.{fixed, solo, restAt, Draws, goes-then, draws-goes, over-draws, last-draws, until-draws}
+use Rattle.serial.specs.Alone.Window.{window-told}
 use Rattle.serial.specs.Alone.MotorolaWords.{frames0-until, frames1-until}
 use Rattle.serial.specs.Alone.TiWords.{framesTi-until}
 use Rattle.serial.specs.Alone.MicrowireWords.{framesM-until}
 use Rattle.serial.specs.declared.engine.Shift.{Shift}
+use Rattle.serial.specs.declared.lines.Lines.{Lines}
 use Rattle.serial.specs.declared.lines.Pins.{Pins}
 
 -- An enabled master with permitted settings s, no frame in progress and no idle slot.
@@ -80,33 +83,54 @@ fresh-engine s d k =
     ∙ ap (λ (n : ℕ). record { slot = slots 0; gone = cycles n; frame = d .engine .frame; selected = false; mark = false; shift = x }) (k .gone)
     ∙ ap (λ (f : Bool). record { slot = slots 0; gone = cycles 0; frame = f; selected = false; mark = false; shift = x }) (k .frame)
 
-recorded-of : (s : Settings) (d : DeviceModel) → Fresh s d → (ws : List ℕ) → d .registers .tx ≡ ws → (ps : List Pins) → length ps ≡ slotTotal s (length ws) * s .half
-    → recording d ps ≡ stretch (s .half) (drawing s ws)
+-- with nothing to send a master stays idle
+idle-goes : (s : Settings) (x : Shift) (k : ℕ) → Goes s (replicate k (idle s)) (solo [] (restAt (bareShift x))) (solo [] (restAt (bareShift x)))
+unfolding cycle acted moves masterStep acting resting masterEnd masterLines
+idle-goes s x zero = none
+idle-goes s x (suc k) = more refl refl (idle-goes s x k)
+
+recorded-of : (s : Settings) (d : DeviceModel) → Fresh s d → (ws : List ℕ) → d .registers .tx ≡ ws → (ps : List Pins) (k : ℕ) → length ps ≡ slotTotal s (length ws) * s .half + k
+    → recording d ps ≡ stretch (s .half) (drawing s ws) ++ replicate k (idle s)
 unfolding slotTotal
-recorded-of s d k [] e [] l = sym (ap (stretch (s .half)) (drawing-none s))
-recorded-of s d k [] e (p ∷ ps) l = absurd (omega arith)
-recorded-of s d k (w ∷ ws) e ps l =
-    recording-goes s d (record { set = k .set; enabled = k .enabled; master = k .master })
-    (ap₂ solo e (fresh-engine s d k))
-    (load-goes s d k (bareShift (d .engine .shift)) w ws)
+recorded-of s d f [] e ps k l =
+    recording-goes s d (record { set = f .set; enabled = f .enabled; master = f .master })
+    (ap₂ solo e (fresh-engine s d f))
+    (idle-goes s (d .engine .shift) k)
     ps
-    (l ∙ ap (λ (n : ℕ). n * s .half) (sym (length-drawing s (omega (arith, k .least)) (w ∷ ws))) ∙ sym (length-stretch (s .half) (drawing s (w ∷ ws))))
+    (omega (arith, l, length-replicate k (idle s)))
+    ∙ ap (λ (ls : List Lines). stretch (s .half) ls ++ replicate k (idle s)) (sym (drawing-none s))
+recorded-of s d f (w ∷ ws) e ps k l =
+    let ls = stretch (s .half) (drawing s (w ∷ ws)) in
+    recording-goes s d (record { set = f .set; enabled = f .enabled; master = f .master })
+    (ap₂ solo e (fresh-engine s d f))
+    (goes-then s (load-goes s d f (bareShift (d .engine .shift)) w ws) (idle-goes s clearShift k))
+    ps
+    (omega (
+      arith,
+      l,
+      length-append ls (replicate k (idle s)),
+      length-replicate k (idle s),
+      length-stretch (s .half) (drawing s (w ∷ ws)),
+      ap (λ (n : ℕ). n * s .half) (length-drawing s (omega (arith, f .least)) (w ∷ ws)),
+    ))
 
--- The lines of the first slot total times h cycles are the drawing of the load, every entry h times.
-pub recorded : (s : Settings) (d : DeviceModel) → Fresh s d → (ps : List Pins) → length ps ≡ slotTotal s (length (d .registers .tx)) * s .half
-    → recording d ps ≡ stretch (s .half) (drawing s (d .registers .tx))
-recorded s d k ps l = recorded-of s d k (d .registers .tx) refl ps l
+-- The lines of the first slot total times h cycles are the drawing of the load, every entry h times; behind them come idle lines.
+pub recorded : (s : Settings) (d : DeviceModel) → Fresh s d → (ps : List Pins) (k : ℕ) → length ps ≡ slotTotal s (length (d .registers .tx)) * s .half + k
+    → recording d ps ≡ stretch (s .half) (drawing s (d .registers .tx)) ++ replicate k (idle s)
+recorded s d f ps k l = recorded-of s d f (d .registers .tx) refl ps k l
 
--- Two loads that give the same lines, whatever the input pins carry, are equal after cutting to b bits, Microwire to 8.
+-- Two loads that give the same lines to their last idle slot and beyond, whatever the input pins carry, are equal after cutting to b bits, Microwire to 8.
 pub load-told : (s : Settings) (d d′ : DeviceModel) → Fresh s d → Fresh s d′ → (ps qs : List Pins)
-    → length ps ≡ slotTotal s (length (d .registers .tx)) * s .half → length qs ≡ slotTotal s (length (d′ .registers .tx)) * s .half
+    → slotTotal s (length (d .registers .tx)) * s .half ≤ length ps → slotTotal s (length (d′ .registers .tx)) * s .half ≤ length qs
     → recording d ps ≡ recording d′ qs → map (cut (widthOf s)) (d .registers .tx) ≡ map (cut (widthOf s)) (d′ .registers .tx)
-load-told s d d′ k k′ ps qs l l′ e =
-    told s (k .serves) (k .most) (omega (arith, k .least)) (d .registers .tx) (d′ .registers .tx)
-    (stretch-told (s .half) (k .half) (drawing s (d .registers .tx)) (drawing s (d′ .registers .tx)) (sym (recorded s d k ps l) ∙ e ∙ recorded s d′ k′ qs l′))
+load-told s d d′ f f′ ps qs l l′ e =
+    let k = length ps - slotTotal s (length (d .registers .tx)) * s .half in
+    let k′ = length qs - slotTotal s (length (d′ .registers .tx)) * s .half in
+    window-told s (f .serves) (omega (arith, f .least)) (f .half) (f .most) (d .registers .tx) (d′ .registers .tx) k k′
+    (sym (recorded s d f ps k (omega (arith, l))) ∙ e ∙ recorded s d′ f′ qs k′ (omega (arith, l′)))
 
 -- The same of the output bytes.
 pub load-bytes-told : (s : Settings) (d d′ : DeviceModel) → Fresh s d → Fresh s d′ → (ps qs : List Pins)
-    → length ps ≡ slotTotal s (length (d .registers .tx)) * s .half → length qs ≡ slotTotal s (length (d′ .registers .tx)) * s .half
+    → slotTotal s (length (d .registers .tx)) * s .half ≤ length ps → slotTotal s (length (d′ .registers .tx)) * s .half ≤ length qs
     → map byteOf (recording d ps) ≡ map byteOf (recording d′ qs) → map (cut (widthOf s)) (d .registers .tx) ≡ map (cut (widthOf s)) (d′ .registers .tx)
-load-bytes-told s d d′ k k′ ps qs l l′ e = load-told s d d′ k k′ ps qs l l′ (bytes-told (recording d ps) (recording d′ qs) e)
+load-bytes-told s d d′ f f′ ps qs l l′ e = load-told s d d′ f f′ ps qs l l′ (bytes-told (recording d ps) (recording d′ qs) e)

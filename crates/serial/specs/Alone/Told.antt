@@ -116,7 +116,7 @@ frame0-told s w v m e =
     (append-left (bitLines (low s false) (low s true) t w 0 t) (bitLines (low s false) (low s true) t v 0 t) _ _
     (length-bits (low s false) (low s true) t w 0 t ∙ sym (length-bits (low s false) (low s true) t v 0 t)) (cons-tail e))
 
-nil-cons : {A B : Type 0} {x : A} {xs : List A} → [] ≡ (x ∷ xs) → B
+pub nil-cons : {A B : Type 0} {x : A} {xs : List A} → [] ≡ (x ∷ xs) → B
 nil-cons {A} {B} {x} {xs} e = let z : 0 ≡ suc (length xs) = ap length e in absurd (omega arith)
 
 pub frames0-told : (s : Settings) → s .bits ≤ 16 → (ws vs : List ℕ) → frames0 s ws ≡ frames0 s vs → map (cut (s .bits)) ws ≡ map (cut (s .bits)) vs
