@@ -3,8 +3,9 @@
  *
  * A device is a record of PL022_RECORD_LENGTH bytes that you own. Lend it to
  * every call; there is no other state, no allocation and no global, so any
- * number of devices may live side by side, and a copy of the bytes is a copy of
- * the device. docs/RECORD.md describes the bytes. Begin with pl022_reset.
+ * number of devices may exist at the same time, and a copy of the bytes is a copy of
+ * the device. docs/RECORD.md describes the bytes, docs/DRIVERS.md is for authors of
+ * drivers. Begin with pl022_reset.
  *
  * Line bytes. A run takes an input byte and gives an output byte for each cycle:
  *
@@ -23,7 +24,7 @@
  *     10 PL022_WRONG_LENGTH     the record is not 128 bytes              all
  *     11 PL022_LINES_DIFFER     input_len and output_len differ          runs
  *     12 PL022_BAD_INPUT        an input byte is above 7                 runs
- *      9 PL022_UNSOUND          the record's bytes are no device's       all but reset
+ *      9 PL022_UNSOUND          the record is not sound                  all but reset
  *      1 PL022_BAD_OFFSET       offset not a multiple of 4, or 0x1000
  *                               and up                                   read, write
  *      2 PL022_RESERVED         reserved offset, 0x28 to 0xFDC           read, write
@@ -38,11 +39,11 @@
  *                               is dropped                               write
  *      8 PL022_QUEUE_EMPTY      DR with no word held                     read
  *
- * A record that one of these calls left is never refused with 9 afterwards,
- * unless something else has changed its bytes.
+ * A record that was left by a call that was done is never refused with 9
+ * afterwards, unless something else has changed its bytes.
  *
- * What you owe in every call: each pointer is valid for its length and not null,
- * even where that length is 0, and the buffers that you lend to one call do not
+ * Every call requires that each pointer is valid for its length and not null,
+ * even where that length is 0, and that the buffers lent to one call do not
  * overlap. The library cannot test these two. Anything else is safe to pass.
  */
 #ifndef PL022_H
@@ -50,6 +51,10 @@
 
 #include <stddef.h>
 #include <stdint.h>
+
+#ifdef __cplusplus
+extern "C" {
+#endif
 
 /* The length of a record in bytes. */
 #define PL022_RECORD_LENGTH 128
@@ -122,7 +127,7 @@ struct pl022_count {
  * Returns     0, or 10.
  * Unchanged   the record, if refused. What it held before does not matter: this is
  *             the call that makes a record out of any 128 bytes.
- * You owe     a valid pointer to record_len bytes.
+ * Requires    a valid pointer to record_len bytes.
  */
 uint32_t pl022_reset(uint8_t *record, size_t record_len);
 
@@ -134,7 +139,7 @@ uint32_t pl022_reset(uint8_t *record, size_t record_len);
  *
  * Returns     the register's word with refusal 0; or 10, 9, 1, 2, 3, 8 with word 0.
  * Unchanged   the record, if refused and after every read but one of DR.
- * You owe     a valid pointer to record_len bytes.
+ * Requires    a valid pointer to record_len bytes.
  */
 struct pl022_word pl022_read(uint8_t *record, size_t record_len, uint32_t offset);
 
@@ -147,7 +152,7 @@ struct pl022_word pl022_read(uint8_t *record, size_t record_len, uint32_t offset
  *
  * Returns     0, or 10, 9, 1, 2, 3, 4, 5, 6, 7.
  * Unchanged   the record, if refused.
- * You owe     a valid pointer to record_len bytes.
+ * Requires    a valid pointer to record_len bytes.
  */
 uint32_t pl022_write(uint8_t *record, size_t record_len, uint32_t offset, uint32_t value);
 
@@ -155,12 +160,12 @@ uint32_t pl022_write(uint8_t *record, size_t record_len, uint32_t offset, uint32
  * pl022_run: runs one cycle for each input byte.
  *
  * Cycle i takes the levels in input[i] and writes the device's lines in that cycle
- * to output[i]. No bytes are no cycles, which is done too. All input bytes are
+ * to output[i]. With length 0 no cycle runs and the answer is 0. All input bytes are
  * checked before the first cycle.
  *
  * Returns     0, or 10, 11, 12, 9.
  * Unchanged   the input; record and output as well, if refused.
- * You owe     valid pointers to record_len, input_len and output_len bytes that do
+ * Requires    valid pointers to record_len, input_len and output_len bytes that do
  *             not overlap.
  */
 uint32_t pl022_run(uint8_t *record, size_t record_len,
@@ -172,14 +177,16 @@ uint32_t pl022_run(uint8_t *record, size_t record_len,
  *
  * It stops after the first cycle that ends with BSY 0, at once if BSY is 0 already,
  * and otherwise with the last input byte. BSY is 1 while a frame is in progress or a
- * word waits to be sent, so a disabled device with a word waiting uses all its input.
+ * word waits to be sent, so a disabled device with a word waiting uses all its input. A
+ * master's falls in the first cycle of the first idle slot (TI: in the frame's last cycle),
+ * so the idle slots are not run.
  * All input bytes are checked before the first cycle, also those that the run would
  * not reach.
  *
  * Returns     the number of cycles run with refusal 0; or 10, 11, 12, 9 with count 0.
  * Unchanged   the input, and the output bytes from output[count] on; record and output
  *             as a whole, if refused.
- * You owe     valid pointers to record_len, input_len and output_len bytes that do
+ * Requires    valid pointers to record_len, input_len and output_len bytes that do
  *             not overlap.
  */
 struct pl022_count pl022_run_to_idle(uint8_t *record, size_t record_len,
@@ -191,19 +198,24 @@ struct pl022_count pl022_run_to_idle(uint8_t *record, size_t record_len,
  *
  * In each cycle the input of either device is the other's output in the cycle before:
  * CLK and FSS as driven, RXD the other's TXD, LOW where the other releases it. Accesses
- * between calls do not change what the next cycle sees. No cycles are done too.
+ * between calls do not change what the next cycle sees. With 0 cycles nothing runs
+ * and the answer is 0.
  *
  * The first cycle sees the output of the other's last cycle, whichever call ran it: after
- * another set-up let four cycles pass before a slave is enabled, and enable it before its
- * master. The call gives no lines; to record them run one cycle at a time and look at
- * PL022_RECORD_LINES in each record.
+ * changing settings run four cycles, then enable the slave, then the master. The call gives
+ * no lines; to record them run one cycle at a time and look at PL022_RECORD_LINES in each
+ * record.
  *
  * Returns     0; or 10 if either record is not 128 bytes long, then 9 if either is not
  *             sound.
  * Unchanged   both records, if refused.
- * You owe     valid pointers to first_len and second_len bytes that do not overlap.
+ * Requires    valid pointers to first_len and second_len bytes that do not overlap.
  */
 uint32_t pl022_pair_run(uint8_t *first, size_t first_len,
                         uint8_t *second, size_t second_len, uint64_t cycles);
+
+#ifdef __cplusplus
+}
+#endif
 
 #endif

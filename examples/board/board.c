@@ -162,7 +162,7 @@ static void print_recording(const struct board *board)
     print_line("TXD", recording->lines, recording->slots, LINE_DATA);
     print_line("nSSPOE", recording->lines, recording->slots, PL022_NSSPOE);
     print_line("RXD", recording->pins, recording->slots, LINE_DATA);
-    printf("    %-8s%s\n", "capture", captures);
+    printf("    %-8s%s  the bit that the master captures\n", "capture", captures);
 }
 
 static void print_polls(const char *who, const struct transfer *transfer)
