@@ -1,7 +1,8 @@
 //! Cycles and register accesses a second: the library and the second program at
 //! the same work in turn, and a plain fill of the same output bytes beside them.
 
-use compare::device::Device;
+use compare::device::offset::{CPSR, CR0, CR1, DR, IMSC, SR};
+use compare::device::{refusal, Device};
 use compare::library::Library;
 use compare::model::{Model, Second};
 use compare::random::Random;
@@ -22,16 +23,8 @@ const CYCLES_AN_ACCESS: u64 = 75;
 const QUEUE: u32 = 8;
 const SEED: u64 = 0x0022_5EED;
 
-const CR0: u32 = 0x00;
-const CR1: u32 = 0x04;
-const DR: u32 = 0x08;
-const SR: u32 = 0x0C;
-const CPSR: u32 = 0x10;
-const IMSC: u32 = 0x14;
-
 const SIXTEEN_BITS: u32 = 15;
 const SSE: u32 = 2;
-const EMPTY: u32 = 8;
 
 /// One program with one device.
 trait Port {
@@ -180,7 +173,7 @@ impl Runner {
         loop {
             let (refusal, word) = self.port.read(DR);
             if refusal != 0 {
-                self.refused += u64::from(refusal != EMPTY);
+                self.refused += u64::from(refusal != refusal::EMPTY);
                 break;
             }
             self.sum.add(u64::from(word));

@@ -6,11 +6,7 @@ use crate::random::Random;
 use crate::record::at;
 use crate::session::Outcome;
 
-pub const CR0: u32 = 0x00;
-pub const CR1: u32 = 0x04;
-pub const DR: u32 = 0x08;
-pub const CPSR: u32 = 0x10;
-pub const ICR: u32 = 0x20;
+pub use crate::device::offset::{CPSR, CR0, CR1, DR, ICR};
 
 pub const SSE: u32 = 2;
 pub const MS: u32 = 4;

@@ -18,18 +18,22 @@ pub mod refusal {
     pub const INPUT_BYTE: u32 = 12;
 }
 
-const CR0: u32 = 0x00;
-const CR1: u32 = 0x04;
-const DR: u32 = 0x08;
-const SR: u32 = 0x0C;
-const CPSR: u32 = 0x10;
-const IMSC: u32 = 0x14;
-const RIS: u32 = 0x18;
-const MIS: u32 = 0x1C;
-const ICR: u32 = 0x20;
-const DMACR: u32 = 0x24;
-const IDENTITY: u32 = 0xFE0;
-const END: u32 = 0x1000;
+pub mod offset {
+    pub const CR0: u32 = 0x00;
+    pub const CR1: u32 = 0x04;
+    pub const DR: u32 = 0x08;
+    pub const SR: u32 = 0x0C;
+    pub const CPSR: u32 = 0x10;
+    pub const IMSC: u32 = 0x14;
+    pub const RIS: u32 = 0x18;
+    pub const MIS: u32 = 0x1C;
+    pub const ICR: u32 = 0x20;
+    pub const DMACR: u32 = 0x24;
+    pub const IDENTITY: u32 = 0xFE0;
+    pub const END: u32 = 0x1000;
+}
+
+use offset::*;
 
 const IDENTITY_BYTES: [u32; 8] = [0x22, 0x10, 0x34, 0x00, 0x0D, 0xF0, 0x05, 0xB1];
 

@@ -6,7 +6,7 @@ mod master;
 mod queue;
 mod slave;
 
-pub use access::refusal;
+pub use access::{offset, refusal};
 pub use queue::{Queue, PLACES};
 
 /// Bits of an output byte; an input byte has RXD where TXD stands.
