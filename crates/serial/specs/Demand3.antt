@@ -182,7 +182,7 @@ abbrev pub WholeLoad : Settings → DeviceModel → List Pins → Type 0
 WholeLoad s d ps = slotTotal s (length (d .registers .tx)) * s .half ≤ length ps
 
 -- For given master settings, no frame in progress at enabling and no access after it: two loads that give the same output bytes
--- from enabling to the last idle slot, whatever the input pins carry, are equal after cutting to b bits, Microwire to 8.
+-- from enabling to the last idle slot, or longer, whatever the input pins carry, are equal after cutting to b bits, Microwire to 8.
 abbrev pub LastSentence : Type 0
 LastSentence =
     (s : Settings) (d d′ : DeviceModel) (o v o′ v′ : ℕ) → Enabling s d o v → Enabling s d′ o′ v′ → (ps qs : List Pins)

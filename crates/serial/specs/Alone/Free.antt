@@ -25,7 +25,7 @@ use Rattle.serial.specs.Pair.Ends.{waits-cons}
 use Rattle.serial.specs.Pair.Moves.{sending, shifted}
 use Rattle.serial.specs.Pair.Trace.{iterate, iterate-add}
 use Rattle.serial.specs.Alone.{slotTotal, drawing, stretch}
-use Rattle.serial.specs.Alone.Told.{Serves, length-stretch, length-drawing}
+use Rattle.serial.specs.Alone.Told.{Serves, idle-released, length-stretch, length-drawing}
 use Rattle.serial.specs.Alone.Solo.{bare, bareShift, bareStep, Solo, moves, acted, cycle, soloOf, Runs, solo-cycle, runs-cycle, Goes, none, more}
 use Rattle.serial.specs.Alone.Slot.{fixed, solo, on, restAt, at, past, Live, Slot, cycle-in, first-cycle, slot-goes, draws-goes, Draws, Over, over, Last, last, Until}
 use Rattle.serial.specs.Alone.MotorolaWords.{frames0-until, frames1-until}
@@ -132,12 +132,6 @@ module _ (s : Settings) where
   unfolding masterLines
   driven-frame e k = go (e .frame) refl
     where
-      idle-released : (f : Format) (p : Bool) → idleOn f p .released ≡ true
-      idle-released Motorola p = refl
-      idle-released Ti p = refl
-      idle-released Microwire p = refl
-      idle-released Reserved p = refl
-
       go : (t : Bool) → e .frame ≡ t → e .frame ≡ true
       go true q = q
       go false q = absurd (true≢false (sym (idle-released (s .format) (s .polarity)) ∙ ap (λ (t : Bool). pick t (frameLines s (levelsOf s (not (eqb (e .shift .captured) 0)) (e .slot .0)) (e .shift .level)) (idleOn (s .format) (s .polarity)) .released) (sym q) ∙ k))

@@ -13,7 +13,7 @@ use Rattle.registers.specs.declared.settings.Format.{Format}
 use Rattle.registers.specs.declared.settings.Format.the-variants.{Motorola, Ti, Microwire, Reserved}
 use Rattle.registers.specs.declared.settings.Settings.{Settings}
 use Rattle.serial.specs.Bits.{bitOf, shiftedIn, cut}
-use Rattle.serial.specs.Lines.{byteOf}
+use Rattle.serial.specs.Lines.{byteOf, idleOn}
 use Rattle.serial.specs.Slots.{widthOn, widthOf}
 use Rattle.serial.specs.Alone.{low, idle, bitLines, frame0, frames0, chain1, frames1, held, joined, framesTi, quiets, chainM, framesM, drawingOn, drawing, stretch, totalOn, slotTotal}
 use Rattle.serial.specs.Pair.Top.{top, top-zero, top-next, top-full}
@@ -58,6 +58,13 @@ top-same t w v (suc c) l m f =
 -- a word cut to t bits is known by these
 pub cut-same : (t w v : ℕ) → t ≤ 16 → SameBits t t w v → cut t w ≡ cut t v
 cut-same t w v m f = sym (top-full t w) ∙ top-same t w v t (omega arith) m f ∙ top-full t v
+
+-- Idle lines are released.
+pub idle-released : (f : Format) (p : Bool) → idleOn f p .released ≡ true
+idle-released Motorola p = refl
+idle-released Ti p = refl
+idle-released Microwire p = refl
+idle-released Reserved p = refl
 
 -- Bits on the lines ----------------------------------------------------------------------------------------------------
 

@@ -1,4 +1,4 @@
--- Behind its load a master shows idle lines, as long as one looks; these lines and the load's tell the load.
+-- Behind its load a master shows idle lines. A recording that is longer than the load determines the load too.
 use Prim.Native.Nat.{ℕ, zero, suc, _+_, _-_, _*_, _≤_, _<_}
 use mathlib.Core.Path.{_≡_, refl, sym, ap, _∙_, subst}
 use mathlib.Core.Bool.{Bool, true, false, true≢false}
@@ -14,8 +14,8 @@ use Rattle.registers.specs.declared.settings.Settings.{Settings}
 use Rattle.serial.specs.Bits.{bitOf, cut}
 use Rattle.serial.specs.Slots.{widthOf}
 use Rattle.serial.specs.Lines.{idleOn}
-use Rattle.serial.specs.Alone.{slotTotal, totalOn, low, idle, bitLines, frame0, frames0, chain1, frames1, marked, held, joined, framesTi, quiet, quiets, chainM, framesM, drawingOn, drawing, stretch}
-use Rattle.serial.specs.Alone.Told.{Serves, cons-tail, cons-head, nil-cons, append-left, told, stretch-told, length-stretch, length-drawing}
+use Rattle.serial.specs.Alone.{slotTotal, totalOn, low, idle, bitLines, frame0, frames0, chain1, joined, quiet, quiets, chainM, drawingOn, drawing, stretch}
+use Rattle.serial.specs.Alone.Told.{Serves, cons-tail, cons-head, nil-cons, append-left, idle-released, told, stretch-told, length-stretch, length-drawing}
 use Rattle.serial.specs.declared.lines.Lines.{Lines}
 
 -- Behind the list A all entries are x.
@@ -48,12 +48,6 @@ module _ {s : Settings} where
   closing-behind (u ∷ us) c = closing-cons (closing-behind us c)
 
 module _ (s : Settings) where
-  idle-released : (f : Format) (p : Bool) → idleOn f p .released ≡ true
-  idle-released Motorola p = refl
-  idle-released Ti p = refl
-  idle-released Microwire p = refl
-  idle-released Reserved p = refl
-
   -- lines that are driven are not idle
   driven : {l : Lines} → l .released ≡ false → l ≡ idle s → ⊥
   driven r e = true≢false (sym (idle-released (s .format) (s .polarity)) ∙ sym (ap (λ (l : Lines). l .released) e) ∙ r)
