@@ -16,14 +16,6 @@ struct pl022_count __real_pl022_run_to_idle(uint8_t *, size_t, const uint8_t *, 
                                             uint8_t *, size_t);
 uint32_t __real_pl022_pair_run(uint8_t *, size_t, uint8_t *, size_t, uint64_t);
 
-uint32_t __wrap_pl022_reset(uint8_t *, size_t);
-struct pl022_word __wrap_pl022_read(uint8_t *, size_t, uint32_t);
-uint32_t __wrap_pl022_write(uint8_t *, size_t, uint32_t, uint32_t);
-uint32_t __wrap_pl022_run(uint8_t *, size_t, const uint8_t *, size_t, uint8_t *, size_t);
-struct pl022_count __wrap_pl022_run_to_idle(uint8_t *, size_t, const uint8_t *, size_t,
-                                            uint8_t *, size_t);
-uint32_t __wrap_pl022_pair_run(uint8_t *, size_t, uint8_t *, size_t, uint64_t);
-
 /* faults.sh says them in words, in this order. */
 enum {
     RESET_LEAVES_A_BYTE = 1, RESET_TAKES_127,
