@@ -10,13 +10,13 @@ use Rattle.queue.specs.declared.Added.{Added}
 use Rattle.queue.specs.declared.Taken.{Taken}
 use Rattle.queue.specs.declared.Oldest.{Oldest}
 use Rattle.queue.specs.declared.Oldest.the-variants.{Word, Nothing}
-pub mod Laws
+pub mod Inside
 
 -- How many words fit.
 abbrev pub places : ℕ
 places = 8
 
--- The words held, oldest first. Shut: only this module's laws look inside.
+-- The words held, oldest first. Shut: only the laws of Inside open it, for the proofs of this crate.
 pub contents : Queue → List ℕ
 contents q = take (q .count) (q .words)
 

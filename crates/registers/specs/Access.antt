@@ -20,7 +20,6 @@ use Rattle.registers.specs.declared.access.Answer.{Answer}
 use Rattle.registers.specs.declared.access.Answer.the-variants.{Word, Refused}
 use Rattle.registers.specs.declared.access.Reading.{Reading}
 use Rattle.registers.specs.declared.access.Written.{Written}
-pub mod Laws
 
 -- Reading ------------------------------------------------------------------------------------------------------------
 

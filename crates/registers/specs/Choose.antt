@@ -3,7 +3,6 @@ use Prim.Native.Nat.{ℕ, _/_, _%_, _^_}
 use mathlib.Core.Bool.{Bool, not}
 use lib.Dec.{eqb}
 pub use Rattle.queue.specs.Choose.{pick}
-pub mod Laws
 
 -- Bit k of a value is set.
 abbrev pub bitAt : ℕ → ℕ → Bool

@@ -4,7 +4,6 @@ use mathlib.Core.List.{List, [], _∷_}
 use lib.ListN.{length, getD, take}
 use Rattle.registers.specs.Model.{Model}
 use Rattle.registers.specs.declared.fields.Fields.{Fields}
-pub mod Laws
 
 -- The eight places of a queue, oldest word first; 0 past the last word.
 unfoldable pub places : List ℕ → List ℕ

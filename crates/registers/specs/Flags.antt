@@ -7,7 +7,6 @@ use lib.Dec.{ltb, leb, eqb}
 use Rattle.registers.specs.Choose.{pick, bitAt}
 use Rattle.registers.specs.Model.{Model}
 use Rattle.registers.specs.declared.flags.Interrupts.{Interrupts}
-pub mod Laws
 
 -- A flag's bit in a register.
 pub record ValueOf (flag : Bool) (weight r : ℕ) : Type 0 where

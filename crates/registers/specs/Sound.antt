@@ -10,7 +10,6 @@ use Rattle.registers.specs.Settings.{permittedOf, enabledOf}
 use Rattle.registers.specs.Transfer.{limitOf}
 use Rattle.registers.specs.declared.Control.{Control}
 use Rattle.registers.specs.declared.Masks.{Masks}
-pub mod Laws
 
 -- CR0 is 0 or permitted, CPSR even, CR1 at most 15; SSE set only with permitted CR0 and CPSR not 0.
 unfoldable pub controlSound : Control → Bool

@@ -1,6 +1,9 @@
 mod Words
-mod Bytes
-mod Status
-mod Runs
-mod Answers
 mod Wiring
+pub mod Status
+pub mod Cycles
+pub mod Soundness
+pub mod Inputs
+pub mod Exchange
+pub mod Drawing
+pub mod Recordings

@@ -12,6 +12,9 @@ use Rattle.registers.specs.Flags.{busyOf, statusOf}
 use Rattle.registers.specs.Access.{readAnswer}
 use Rattle.registers.specs.declared.access.Answer.{Answer}
 use Rattle.registers.specs.declared.access.Answer.the-variants.{Word, Refused}
+use Rattle.serial.specs.Cycle.{DeviceModel}
+use Rattle.serial.specs.Access.{readAnswerOf}
+use Rattle.serial.specs.Busy.{busyDevice}
 
 bits-busy : (b f n t e : Bool) → eqb ((pick b 16 0 + pick f 8 0 + pick n 4 0 + pick t 2 0 + pick e 1 0) / 16 % 2) 1 ≡ b
 bits-busy true true true true true = refl
@@ -52,17 +55,18 @@ unfolding statusOf
 status-busy m frame = bits-busy (busyOf m frame) (leb 8 (length (m .rx))) (not (eqb (length (m .rx)) 0)) (ltb (length (m .tx)) 8) (eqb (length (m .tx)) 0)
 
 -- A read of SR is answered with a word.
-status-answer : (m : Model) (frame : Bool) → readAnswer m frame 12 ≡ Word (statusOf m frame)
-unfolding readAnswer placeOf
-status-answer m frame = refl
+status-answer : (d : DeviceModel) → readAnswerOf d 12 ≡ Word (statusOf (d .registers) (d .engine .frame))
+unfolding readAnswerOf readAnswer placeOf
+status-answer d = refl
 
-module _ (m : Model) (frame : Bool) (a : Answer) (e : a ≡ readAnswer m frame 12) where
-  pub busy-word : (w : ℕ) → a ≡ Word w → eqb (w / 16 % 2) 1 ≡ busyOf m frame
+module _ (d : DeviceModel) (a : Answer) (e : a ≡ readAnswerOf d 12) where
+  pub busy-word : (w : ℕ) → a ≡ Word w → eqb (w / 16 % 2) 1 ≡ busyDevice d
+  unfolding busyDevice
   busy-word w h =
-      let z : w ≡ statusOf m frame = cc (e ∙ status-answer m frame) in
-      rw z (status-busy m frame)
+      let z : w ≡ statusOf (d .registers) (d .engine .frame) = cc (e ∙ status-answer d) in
+      rw z (status-busy (d .registers) (d .engine .frame))
 
   pub busy-never-refused : (n : ℕ) → a ≡ Refused n → ⊥
   busy-never-refused n h =
-      let k = e ∙ status-answer m frame in
+      let k = e ∙ status-answer d in
       let z : _≡_ {A = ℕ} 0 1 = cc in omega arith

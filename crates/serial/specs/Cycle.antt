@@ -18,7 +18,6 @@ use Rattle.serial.specs.declared.engine.Engine.{Engine}
 use Rattle.serial.specs.declared.engine.Step.{Step}
 use Rattle.serial.specs.declared.lines.Lines.{Lines}
 use Rattle.serial.specs.declared.lines.Pins.{Pins}
-pub mod Laws
 
 -- A device as the definitions see it.
 pub record DeviceModel : Type 0 where

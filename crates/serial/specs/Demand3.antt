@@ -13,15 +13,14 @@ use Rattle.registers.specs.declared.settings.Format.the-variants.{Motorola, Ti,
 use Rattle.registers.specs.declared.settings.Settings.{Settings}
 use Rattle.serial.specs.Cycle.{DeviceModel, completedOf}
 use Rattle.serial.specs.Access.{readDevice, writeDevice}
-use Rattle.serial.specs.Run.{busyDevice}
+use Rattle.serial.specs.Busy.{busyDevice}
 use Rattle.serial.specs.Sound.{soundDevice}
-use Rattle.serial.specs.Alone.{slotTotal, recording}
+use Rattle.serial.specs.Drawing.{slotTotal, recording}
 use Rattle.serial.specs.Bits.{cut}
 use Rattle.serial.specs.Lines.{byteOf}
 use Rattle.serial.specs.Slots.{widthOf}
 use Rattle.serial.specs.declared.lines.Pins.{Pins}
 use Rattle.serial.specs.Pair.{wire, PairModel, pairCycle, later}
-pub mod Records
 
 -- Steps ----------------------------------------------------------------------------------------------------------------
 

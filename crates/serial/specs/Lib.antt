@@ -6,11 +6,9 @@ pub mod Master
 pub mod Slave
 pub mod Cycle
 pub mod Access
+pub mod Busy
 pub mod Sound
-pub mod Record
-pub mod Run
-pub mod Calls
-pub mod Recordings
 pub mod Pair
+pub mod Drawing
 pub mod Demand3
-pub mod Alone
+pub mod Recordings

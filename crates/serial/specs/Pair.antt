@@ -5,23 +5,6 @@ use Rattle.serial.specs.Cycle.{DeviceModel, deviceOf, cycleOf}
 use Rattle.serial.specs.declared.pair.Wired.{Wired}
 use Rattle.serial.specs.declared.lines.Lines.{Lines}
 use Rattle.serial.specs.declared.lines.Pins.{Pins}
-pub mod Trace
-pub mod Top
-pub mod Core
-pub mod Settle
-pub mod Quiet
-pub mod Events
-pub mod Moves
-pub mod Motorola
-pub mod Ends
-pub mod Phase0
-pub mod Phase1
-pub mod Ti
-pub mod Finish
-pub mod Project
-pub mod Lead
-pub mod Enable
-pub mod Claim
 
 -- What the partner's pins read: CLK and FSS as driven, TXD where it is driven; a released line reads LOW.
 unfoldable pub wire : Lines → Pins

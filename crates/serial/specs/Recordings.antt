@@ -1,24 +1,14 @@
--- P1 to P10 of the build paper, of the written meaning: one table, one statement, proved by computing.
-use Prim.{Unit, tt}
+-- P1 to P10 as one table of rows, and what it means that a row holds.
+use Prim.{Unit}
 use Prim.Native.Nat.{ℕ, zero, suc, _/_, _%_, _^_}
-use mathlib.Core.Path.{_≡_, refl}
+use mathlib.Core.Path.{_≡_}
 use mathlib.Core.List.{List, [], _∷_}
 use Rattle.registers.specs.Refusals.{done}
-use Rattle.registers.specs.Time.{cyclesOf}
-use Rattle.registers.specs.Offsets.{placeOf}
-use Rattle.registers.specs.Settings.{formatOf, permittedOf, bitsOf, halfOf, enabledOf, settingsOf}
-use Rattle.registers.specs.Flags.{busyOf, statusOf, rawOf, interruptWord}
-use Rattle.registers.specs.Access.{dataTaken, readAnswer, readModel, cr0Rule, cr1Rule, cpsrRule, drRule, writeRefusal, cr0Written, cr1Written, cpsrWritten, drWritten, dmacrWritten, writeModel}
-use Rattle.registers.specs.Transfer.{added, waitingOf, nextWord, sentModel, receivedModel, idlesOf, limitOf, timeoutOf, endedModel}
 use Rattle.registers.specs.declared.access.Answer.{Answer}
 use Rattle.registers.specs.declared.access.Answer.the-variants.{Word, Refused}
-use Rattle.serial.specs.Bits.{bitOf, shiftedIn}
-use Rattle.serial.specs.Engine.{started, driven, capturedOf, completes, captureStep}
-use Rattle.serial.specs.Slots.{motorolaEvent, tiEvent, microwireEvent, eventOf, lastSlot, widthOf, motorolaLevels, tiLevels, microwireLevels, levelsOf}
-use Rattle.serial.specs.Lines.{pinsOf, byteOf, frameLines, masterLines, linesOf}
-use Rattle.serial.specs.Master.{joinedShift, resting, acting, dataBit, masterStep, ticked, masterEnd}
-use Rattle.serial.specs.Cycle.{DeviceModel, resetDevice, stepOf, endOf, takenModel, completeModel, deviceStep, cycleOf}
-use Rattle.serial.specs.Access.{readAnswerOf, readDevice, writeRefusalOf, engineAfter, writeDevice}
+use Rattle.serial.specs.Lines.{pinsOf, byteOf}
+use Rattle.serial.specs.Cycle.{DeviceModel, resetDevice, cycleOf}
+use Rattle.serial.specs.Access.{readAnswerOf, readDevice, writeRefusalOf, writeDevice}
 
 -- What a row is made of ------------------------------------------------------------------------------------------------
 
@@ -187,9 +177,3 @@ table =
     ∷ P 10 (Write 0x24 0 done ∷ Write 0x28 0 2 ∷ Write 0x1000 0 1 ∷ [])
     ∷ P 10 (Read 0x24 (Word 0) ∷ Read 0x28 (Refused 2) ∷ Read 0x1000 (Refused 1) ∷ [])
     ∷ []
-
--- P1 to P10 hold.
-pub recordings : AllHold table
-unfolding table setUp words held digits cyclesLater linesAlong afterStep given expected givenAll expectedAll added cyclesOf placeOf formatOf permittedOf bitsOf halfOf enabledOf settingsOf busyOf statusOf rawOf interruptWord dataTaken readAnswer readModel cr0Rule cr1Rule cpsrRule drRule writeRefusal cr0Written cr1Written cpsrWritten drWritten dmacrWritten writeModel waitingOf nextWord sentModel receivedModel idlesOf limitOf timeoutOf endedModel bitOf shiftedIn started driven capturedOf completes captureStep motorolaEvent tiEvent microwireEvent eventOf lastSlot widthOf motorolaLevels tiLevels microwireLevels levelsOf pinsOf byteOf frameLines masterLines linesOf joinedShift resting acting dataBit masterStep ticked masterEnd stepOf endOf takenModel completeModel deviceStep cycleOf readAnswerOf readDevice writeRefusalOf engineAfter writeDevice
-recordings =
-    (refl, (refl, (refl, (refl, (refl, (refl, (refl, (refl, (refl, (refl, (refl, (refl, (refl, (refl, (refl, (refl, (refl, (refl, tt))))))))))))))))))

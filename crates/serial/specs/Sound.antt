@@ -9,7 +9,6 @@ use Rattle.registers.specs.declared.settings.Settings.{Settings}
 use Rattle.serial.specs.Slots.{lastSlot}
 use Rattle.serial.specs.Cycle.{DeviceModel}
 use Rattle.serial.specs.declared.engine.Engine.{Engine}
-pub mod Laws
 
 -- With SSE clear: no frame, no selection, no TI mark; slot, cycle and bit counts 0.
 unfoldable pub stoppedSound : Engine → Bool

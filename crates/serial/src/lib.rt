@@ -5,14 +5,11 @@ ghost use Rattle.serial.specs.Cycle.{deviceOf, resetDevice};
 
 pub mod access;
 pub mod bits;
-pub mod calls;
 pub mod cycle;
 pub mod engine;
 pub mod lines;
 pub mod master;
 pub mod pair;
-pub mod record;
-pub mod run;
 pub mod slave;
 pub mod slots;
 pub mod sound;

@@ -33,7 +33,8 @@ pub fn pins_of(byte: u8) -> Pins
     }
 }
 
-pub(crate) fn value_of(flag: bool, weight: u8) -> u8
+// The weight of a level in a byte.
+pub fn value_of(flag: bool, weight: u8) -> u8
     ensures { λ r. ⌜ ValueOf flag weight r ⌝ }
 {
     if flag { weight } else { 0 }

@@ -1,4 +1,4 @@
-use Rattle.queue.specs.Fifo.Laws.{added-full, added-room}
+use Rattle.queue.proofs.Contents.{added-full, added-room}
 use borrow.Author.Needs.{needs}
 use Rattle.queue.proofs.add.Statement.{statement}
 use Rattle.queue.proofs.add.Tie as tie

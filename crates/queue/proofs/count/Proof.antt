@@ -1,6 +1,6 @@
 use borrow.Author.Needs.{needs}
 use mathlib.Core.Path.{sym}
-use Rattle.queue.specs.Fifo.Laws.{count-below, count-full}
+use Rattle.queue.proofs.Contents.{count-below, count-full}
 use Rattle.queue.proofs.count.Statement.{statement}
 use Rattle.queue.proofs.count.Tie as tie
 

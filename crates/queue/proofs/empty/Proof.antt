@@ -1,4 +1,4 @@
-use Rattle.queue.specs.Fifo.Laws.{empty-holds}
+use Rattle.queue.proofs.Contents.{empty-holds}
 use Rattle.queue.proofs.empty.Statement.{statement}
 use Rattle.queue.proofs.empty.Tie as tie
 

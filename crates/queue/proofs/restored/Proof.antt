@@ -1,4 +1,4 @@
-use Rattle.queue.specs.Fifo.Laws.{restored-from}
+use Rattle.queue.proofs.Contents.{restored-from}
 use borrow.Author.Needs.{needs}
 use Rattle.queue.proofs.restored.Statement.{statement}
 use Rattle.queue.proofs.restored.Tie as tie

@@ -1,5 +1,5 @@
 use mathlib.Core.Path.{sym, _∙_}
-use Rattle.queue.specs.Fifo.Laws.{taken-none, taken-some, shifted}
+use Rattle.queue.proofs.Contents.{taken-none, taken-some, shifted}
 use borrow.Author.Needs.{needs}
 use Rattle.queue.proofs.take_oldest.Statement.{statement}
 use Rattle.queue.proofs.take_oldest.Tie as tie

@@ -1,6 +1,6 @@
 use mathlib.Core.Path.{sym}
 use native.Mathlib.Omega.{arith}
-use Rattle.queue.specs.Fifo.Laws.{word-held, word-past}
+use Rattle.queue.proofs.Contents.{word-held, word-past}
 use borrow.Author.Needs.{needs}
 use Rattle.queue.proofs.word_at.Statement.{statement}
 use Rattle.queue.proofs.word_at.Tie as tie

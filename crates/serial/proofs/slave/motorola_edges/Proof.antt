@@ -1,4 +1,4 @@
-use Rattle.registers.specs.Choose.Laws.{pick-no, pick-yes}
+use Rattle.registers.proofs.Picks.{pick-no, pick-yes}
 use Rattle.serial.specs.Slave.{motorolaEdges}
 use mathlib.Core.Path.{sym}
 use borrow.Author.Needs.{needs}

@@ -1,4 +1,4 @@
-use Rattle.registers.specs.Choose.Laws.{pick-no}
+use Rattle.registers.proofs.Picks.{pick-no}
 use Rattle.serial.specs.Slave.{motorolaSlave}
 use mathlib.Core.Path.{sym}
 use borrow.Author.Needs.{needs}

@@ -1,4 +1,4 @@
-use Rattle.registers.specs.Choose.Laws.{pick-no, pick-yes}
+use Rattle.registers.proofs.Picks.{pick-no, pick-yes}
 use Rattle.serial.specs.Slave.{tiFalls}
 use mathlib.Core.Path.{_∙_, sym}
 use borrow.Author.Needs.{needs}

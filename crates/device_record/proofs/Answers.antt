@@ -1,0 +1,186 @@
+-- Each way out of a call on records, as its contract states it.
+use Prim.Native.Nat.{ℕ, _<_}
+use mathlib.Core.Path.{_≡_, refl, sym, _∙_, ap}
+use mathlib.Core.List.{List}
+use mathlib.Core.Bool.{Bool, true, false, not, _||_}
+use native.Mathlib.Omega.{arith}
+use lib.Dec.{eqb}
+use lib.ListN.{length, take}
+use lib.Seq.{take-length}
+use borrow.Author.Tests.{eqb-true}
+use Rattle.registers.specs.Choose.{pick}
+use Rattle.registers.specs.Refusals.{refusalOf}
+use Rattle.registers.specs.Offsets.{placeOf}
+use Rattle.registers.specs.Access.{readAnswer, readRefusal, readWord}
+use Rattle.registers.specs.declared.access.Answer.{Answer}
+use Rattle.registers.specs.declared.access.Answer.the-variants.{Word, Refused}
+use Rattle.serial.specs.Cycle.{DeviceModel, deviceOf, resetDevice}
+use Rattle.serial.specs.Access.{readAnswerOf, readDevice, writeRefusalOf, writeDevice, ReadAs, WrittenAs}
+use Rattle.device_record.specs.Record.{encodeOf, encodedIn, decodeOf, soundBytes}
+use Rattle.device_record.specs.Run.{after, outputs, inputsFit, stopsOn, countUntil, written, served, RanAs, runRefusal}
+use Rattle.device_record.specs.Calls.{leftBy, resetRefusal, recordRefusal, readCall, writeCall, runCount, runLeft, runOutput, ResetCall, ReadCall, WriteCall, RunCall, pairRefusal, pairAfter, PairCall}
+use Rattle.serial.specs.Pair.{PairModel, later, pairOf}
+use Rattle.serial.specs.declared.pair.Wired.{Wired}
+use Rattle.serial.specs.declared.Device.{Device}
+use Rattle.serial.specs.declared.access.Reading.{Reading}
+use Rattle.serial.specs.declared.access.Written.{Written}
+use Rattle.device_record.specs.declared.run.Ran.{Ran}
+use Rattle.device_record.specs.declared.run.Rule.{Rule}
+use Rattle.device_record.specs.declared.run.Rule.the-variants.{Never}
+use Rattle.device_record.proofs.Runs.{count-never, served-all, written-all}
+
+-- Of a list of refusals none is given: the first test passed, and none of the others refuses.
+passes : (t : Bool) (k r : ℕ) → 0 < k → pick (not t) k r ≡ 0 → (t ≡ true) × (r ≡ 0)
+passes true k r h e = (refl, e)
+passes false k r h e = absurd (omega arith)
+
+-- The bytes that `encode` leaves in a record of the right length.
+stored : (b b′ : List ℕ) (d m : DeviceModel) → eqb (length b) 128 ≡ true → b′ ≡ encodedIn d b → d ≡ m → b′ ≡ encodeOf m
+unfolding encodedIn
+stored b b′ d m l e h = e ∙ rw (l, h)
+
+-- Reset ----------------------------------------------------------------------------------------------------------------
+
+reset-passes : (b : List ℕ) → resetRefusal b ≡ 0 → eqb (length b) 128 ≡ true
+unfolding resetRefusal
+reset-passes b z = passes (eqb (length b) 128) 10 0 (omega arith) z .0
+
+module _ (b : List ℕ) (n : ℕ) (e : n ≡ resetRefusal b) where
+  pub reset-done : (b′ : List ℕ) (d : DeviceModel) → eqb n 0 ≡ true → d ≡ resetDevice → b′ ≡ encodedIn d b → ResetCall b 0 b′
+  reset-done b′ d t h k =
+      let z : resetRefusal b ≡ 0 = sym e ∙ eqb-true n 0 t in
+      record { refusal = sym z; left = rw z (stored b b′ d resetDevice (reset-passes b z) k h) }
+
+  pub reset-refused : eqb n 0 ≡ false → ResetCall b n b
+  reset-refused f = record { refusal = e; left = rw (← e, f) }
+
+-- Accesses -------------------------------------------------------------------------------------------------------------
+
+record-passes : (b : List ℕ) → recordRefusal b ≡ 0 → eqb (length b) 128 ≡ true
+unfolding recordRefusal
+record-passes b z = passes (eqb (length b) 128) 10 (pick (not (soundBytes b)) 9 0) (omega arith) z .0
+
+-- A read is never refused with 0.
+refused-some : (t : Bool) (x w k : ℕ) → eqb x 0 ≡ t → pick t (Word w) (Refused x) ≡ Refused k → eqb k 0 ≡ false
+refused-some true x w k q e = absurd (let z : _≡_ {A = ℕ} 0 1 = cc in omega arith)
+refused-some false x w k q e = let z : x ≡ k = cc in rw z at q
+
+refused-read : (d : DeviceModel) (o k : ℕ) → readAnswerOf d o ≡ Refused k → eqb k 0 ≡ false
+unfolding readAnswerOf readAnswer
+refused-read d o k e = refused-some (eqb (readRefusal (d .registers) (placeOf o)) 0) (readRefusal (d .registers) (placeOf o)) (readWord (d .registers) (d .engine .frame) (placeOf o)) k refl e
+
+module _ (b : List ℕ) (o n : ℕ) (e : n ≡ recordRefusal b) where
+  read-answer : (a : Answer) → eqb n 0 ≡ true → readAnswerOf (decodeOf b) o ≡ a → readCall b o ≡ a
+  unfolding readCall
+  read-answer a t h = rw (← e, t) h
+
+  module _ (s : Device) (r : Reading) (h : deviceOf s ≡ decodeOf b) (g : ReadAs (deviceOf s) o r) (t : eqb n 0 ≡ true) where
+    pub read-done : (b′ : List ℕ) (w : ℕ) → r .answer ≡ Word w → b′ ≡ encodedIn (deviceOf (r .device)) b → ReadCall b o (Word w) b′
+    read-done b′ w q k =
+        let a = read-answer (Word w) t (rw (← h) (sym (g .answer) ∙ q)) in
+        let l = record-passes b (sym e ∙ eqb-true n 0 t) in
+        record { answer = sym a; left = rw a (stored b b′ (deviceOf (r .device)) (readDevice (decodeOf b) o) l k (rw (← h) (g .device))) }
+
+    pub read-refused : (k : ℕ) → r .answer ≡ Refused k → ReadCall b o (r .answer) b
+    read-refused k q =
+        let p : readAnswerOf (decodeOf b) o ≡ Refused k = rw (← h) (sym (g .answer) ∙ q) in
+        let a = read-answer (Refused k) t p in
+        record { answer = q ∙ sym a; left = rw (a, refused-read (decodeOf b) o k p) }
+
+  pub read-unserved : eqb n 0 ≡ false → ReadCall b o (Refused n) b
+  unfolding readCall
+  read-unserved f = record { answer = rw (← e, f); left = rw (← e, f, f) }
+
+module _ (b : List ℕ) (o v n : ℕ) (e : n ≡ recordRefusal b) where
+  write-number : eqb n 0 ≡ true → writeCall b o v ≡ writeRefusalOf (decodeOf b) o v
+  unfolding writeCall
+  write-number t = rw (← e, t)
+
+  module _ (s : Device) (r : Written) (h : deviceOf s ≡ decodeOf b) (g : WrittenAs (deviceOf s) o v r) (t : eqb n 0 ≡ true) where
+    write-refusal : r .refusal ≡ writeCall b o v
+    write-refusal = (rw h at (g .refusal)) ∙ sym (write-number t)
+
+    pub write-done : (b′ : List ℕ) → eqb (r .refusal) 0 ≡ true → b′ ≡ encodedIn (deviceOf (r .device)) b → WriteCall b o v 0 b′
+    write-done b′ q k =
+        let z : writeCall b o v ≡ 0 = sym write-refusal ∙ eqb-true (r .refusal) 0 q in
+        let l = record-passes b (sym e ∙ eqb-true n 0 t) in
+        record { refusal = sym z; left = rw z (stored b b′ (deviceOf (r .device)) (writeDevice (decodeOf b) o v) l k (rw (← h) (g .device))) }
+
+    pub write-refused : eqb (r .refusal) 0 ≡ false → WriteCall b o v (r .refusal) b
+    write-refused q = record { refusal = write-refusal; left = rw (← write-refusal, q) }
+
+  pub write-unserved : eqb n 0 ≡ false → WriteCall b o v n b
+  unfolding writeCall
+  write-unserved f = record { refusal = rw (← e, f); left = rw (← e, f, f) }
+
+-- Runs -----------------------------------------------------------------------------------------------------------------
+
+run-passes : (b i o : List ℕ) → runRefusal b i o ≡ 0 → (eqb (length b) 128 ≡ true) × (length i ≡ length o)
+unfolding runRefusal
+run-passes b i o z =
+    let p = passes (eqb (length b) 128) 10 (pick (not (eqb (length i) (length o))) 11 (pick (not (inputsFit i)) 12 (pick (not (soundBytes b)) 9 0))) (omega arith) z in
+    let q = passes (eqb (length i) (length o)) 11 (pick (not (inputsFit i)) 12 (pick (not (soundBytes b)) 9 0)) (omega arith) (p .1) in
+    (p .0, eqb-true (length i) (length o) (q .0))
+
+module _ (rule : Rule) (b i o : List ℕ) (n : ℕ) (e : n ≡ runRefusal b i o) where
+  pub run-done : (s : Device) (r : Ran) → deviceOf s ≡ decodeOf b → (b′ o′ : List ℕ) → eqb n 0 ≡ true → b′ ≡ encodedIn (deviceOf (r .device)) b
+      → RanAs (stopsOn rule) (deviceOf s) i o r o′ → RunCall rule b i o (record { refusal = 0; count = r .count }) b′ o′
+  unfolding runCount
+  run-done s r h b′ o′ t k g =
+      let z : runRefusal b i o ≡ 0 = sym e ∙ eqb-true n 0 t in
+      let p = run-passes b i o z in
+      let a = served-all i o (p .1) in
+      record {
+        refusal = sym z;
+        count = rw z (g .count ∙ rw (a, h));
+        left = rw z (stored b b′ (deviceOf (r .device)) (after (decodeOf b) (take (countUntil (stopsOn rule) (decodeOf b) i) i)) (p .0) k (g .device ∙ rw (a, h)));
+        output = rw z (g .output ∙ rw (a, h));
+      }
+
+  pub run-unserved : eqb n 0 ≡ false → RunCall rule b i o (record { refusal = n; count = 0 }) b o
+  unfolding runCount
+  run-unserved f = record { refusal = e; count = rw (← e, f); left = rw (← e, f); output = rw (← e, f) }
+
+-- A run without a stopping rule runs a cycle for each input byte.
+module _ (b i o : List ℕ) where
+  count-all : (n : ℕ) → runRefusal b i o ≡ n → eqb n 0 ≡ true → runCount Never b i o ≡ length i
+  unfolding runCount
+  count-all n e t = rw (e, t) (count-never (decodeOf b) i)
+
+  pub run-all : runLeft Never b i o ≡ leftBy (runRefusal b i o) (after (decodeOf b) i) b
+  run-all = go (eqb (runRefusal b i o) 0) refl
+    where
+      go : (t : Bool) → eqb (runRefusal b i o) 0 ≡ t → pick t (encodeOf (after (decodeOf b) (take (runCount Never b i o) i))) b ≡ pick t (encodeOf (after (decodeOf b) i)) b
+      go true k = rw (count-all (runRefusal b i o) refl k, take-length i)
+      go false k = refl
+
+  pub output-all : runOutput Never b i o ≡ pick (eqb (runRefusal b i o) 0) (outputs (decodeOf b) i) o
+  output-all = go (eqb (runRefusal b i o) 0) refl
+    where
+      go : (t : Bool) → eqb (runRefusal b i o) 0 ≡ t → pick t (written (decodeOf b) (runCount Never b i o) i o) o ≡ pick t (outputs (decodeOf b) i) o
+      go true k = rw (count-all (runRefusal b i o) refl k) (written-all (decodeOf b) i o (run-passes b i o (eqb-true (runRefusal b i o) 0 k) .1))
+      go false k = refl
+
+-- Pairs ----------------------------------------------------------------------------------------------------------------
+
+either : (s t : Bool) (k r : ℕ) → 0 < k → pick (not s || not t) k r ≡ 0 → (s ≡ true) × (t ≡ true) × (r ≡ 0)
+either true true k r h e = (refl, refl, e)
+either true false k r h e = absurd (omega arith)
+either false t k r h e = absurd (omega arith)
+
+module _ (one two : List ℕ) (n : ℕ) (e : n ≡ pairRefusal one two) where
+  pub pair-done : (cycles : ℕ) (one′ two′ : List ℕ) (p : PairModel) (w : Wired) → eqb n 0 ≡ true → pairOf w ≡ later cycles p → p ≡ record { first = decodeOf one; second = decodeOf two }
+      → one′ ≡ encodedIn (deviceOf (w .first)) one → two′ ≡ encodedIn (deviceOf (w .second)) two → PairCall one two cycles 0 one′ two′
+  unfolding pairRefusal pairAfter pairOf
+  pair-done cycles one′ two′ p w t h s j k =
+      let z : pairRefusal one two ≡ 0 = sym e ∙ eqb-true n 0 t in
+      let l = either (eqb (length one) 128) (eqb (length two) 128) 10 (pick (not (soundBytes one) || not (soundBytes two)) 9 0) (omega arith) z in
+      let g : pairOf w ≡ pairAfter one two cycles = h ∙ ap (later cycles) s in
+      record {
+        refusal = sym z;
+        first = stored one one′ (deviceOf (w .first)) (pairAfter one two cycles .first) (l .0) j (ap (λ (x : PairModel). x .first) g) ∙ sym (ap (λ (r : ℕ). pick (eqb r 0) (encodeOf (pairAfter one two cycles .first)) one) z);
+        second = stored two two′ (deviceOf (w .second)) (pairAfter one two cycles .second) (l .1) k (ap (λ (x : PairModel). x .second) g) ∙ sym (ap (λ (r : ℕ). pick (eqb r 0) (encodeOf (pairAfter one two cycles .second)) two) z);
+      }
+
+  pub pair-refused : (cycles : ℕ) → eqb n 0 ≡ false → PairCall one two cycles n one two
+  pair-refused cycles f = record { refusal = e; first = rw (← e, f); second = rw (← e, f) }

@@ -1,0 +1,89 @@
+-- The refusal numbers of an access itself are at most 8.
+use Prim.Native.Nat.{ℕ, _≤_}
+use mathlib.Core.Path.{_≡_, refl, sym, _∙_}
+use mathlib.Core.Bool.{Bool, true, false, not, _&&_, _||_}
+use native.Mathlib.Omega.{arith}
+use lib.ListN.{length}
+use lib.Dec.{leb, eqb}
+use Rattle.registers.specs.Choose.{pick, bitAt, bitsDiffer}
+use Rattle.registers.specs.Refusals.{firstOf, refusalOf}
+use Rattle.registers.specs.Model.{Model}
+use Rattle.registers.specs.Offsets.{placeOf}
+use Rattle.registers.specs.Settings.{enabledOf, permittedOf}
+use Rattle.registers.specs.Access.{readRefusal, readWord, readAnswer, bitsBeyond, writeAccess, cr0Rule, cr1Rule, cpsrRule, drRule, writeRule, writeRefusal}
+use Rattle.registers.specs.declared.access.Answer.the-variants.{Word, Refused}
+use Rattle.registers.specs.declared.offsets.Place.{Place}
+use Rattle.registers.specs.declared.offsets.Place.the-variants.{Cr0, Cr1, Dr, Sr, Cpsr, Imsc, Ris, Mis, Icr, Dmacr, Identity, Reserved, Outside}
+use Rattle.serial.specs.Cycle.{DeviceModel}
+use Rattle.serial.specs.Access.{readAnswerOf, writeRefusalOf}
+
+pick-most : (t : Bool) (a b : ℕ) → a ≤ 8 → b ≤ 8 → pick t a b ≤ 8
+pick-most true a b p q = p
+pick-most false a b p q = q
+
+read-refusal-most : (m : Model) (p : Place) → readRefusal m p ≤ 8
+read-refusal-most m Cr0 = omega arith
+read-refusal-most m Cr1 = omega arith
+read-refusal-most m Dr = pick-most (eqb (length (m .rx)) 0) 8 0 (omega arith) (omega arith)
+read-refusal-most m Sr = omega arith
+read-refusal-most m Cpsr = omega arith
+read-refusal-most m Imsc = omega arith
+read-refusal-most m Ris = omega arith
+read-refusal-most m Mis = omega arith
+read-refusal-most m Icr = omega arith
+read-refusal-most m Dmacr = omega arith
+read-refusal-most m (Identity i) = omega arith
+read-refusal-most m Reserved = omega arith
+read-refusal-most m Outside = omega arith
+
+answer-most : (t : Bool) (w n : ℕ) → n ≤ 8 → refusalOf (pick t (Word w) (Refused n)) ≤ 8
+answer-most true w n h = omega arith
+answer-most false w n h = h
+
+pub read-most : (d : DeviceModel) (o : ℕ) → refusalOf (readAnswerOf d o) ≤ 8
+unfolding readAnswerOf readAnswer
+read-most d o =
+    let m = d .registers in
+    answer-most (eqb (readRefusal m (placeOf o)) 0) (readWord m (d .engine .frame) (placeOf o)) (readRefusal m (placeOf o)) (read-refusal-most m (placeOf o))
+
+beyond-most : (limit v : ℕ) → bitsBeyond limit v ≤ 8
+beyond-most limit v = pick-most (leb limit v) 4 0 (omega arith) (omega arith)
+
+write-access-most : (p : Place) (v : ℕ) → writeAccess p v ≤ 8
+write-access-most Cr0 v = beyond-most 0x10000 v
+write-access-most Cr1 v = beyond-most 0x10 v
+write-access-most Dr v = beyond-most 0x10000 v
+write-access-most Sr v = omega arith
+write-access-most Cpsr v = beyond-most 0x100 v
+write-access-most Imsc v = beyond-most 0x10 v
+write-access-most Ris v = omega arith
+write-access-most Mis v = omega arith
+write-access-most Icr v = beyond-most 0x4 v
+write-access-most Dmacr v = beyond-most 0x4 v
+write-access-most (Identity i) v = omega arith
+write-access-most Reserved v = omega arith
+write-access-most Outside v = omega arith
+
+write-rule-most : (m : Model) (p : Place) (v : ℕ) → writeRule m p v ≤ 8
+unfolding cr0Rule cr1Rule cpsrRule drRule
+write-rule-most m Cr0 v = pick-most (enabledOf (m .control)) 5 _ (omega arith) (pick-most (permittedOf v) 0 6 (omega arith) (omega arith))
+write-rule-most m Cr1 v =
+    pick-most (enabledOf (m .control) && (bitsDiffer (m .control .cr1) v 2 || bitsDiffer (m .control .cr1) v 0)) 5 _ (omega arith)
+    (pick-most (bitAt v 1 && (not (permittedOf (m .control .cr0)) || eqb (m .control .cpsr) 0)) 6 0 (omega arith) (omega arith))
+write-rule-most m Dr v = pick-most (leb 8 (length (m .tx))) 7 0 (omega arith) (omega arith)
+write-rule-most m Sr v = omega arith
+write-rule-most m Cpsr v = pick-most (enabledOf (m .control)) 5 0 (omega arith) (omega arith)
+write-rule-most m Imsc v = omega arith
+write-rule-most m Ris v = omega arith
+write-rule-most m Mis v = omega arith
+write-rule-most m Icr v = omega arith
+write-rule-most m Dmacr v = omega arith
+write-rule-most m (Identity i) v = omega arith
+write-rule-most m Reserved v = omega arith
+write-rule-most m Outside v = omega arith
+
+pub write-most : (d : DeviceModel) (o v : ℕ) → writeRefusalOf d o v ≤ 8
+unfolding writeRefusalOf writeRefusal
+write-most d o v =
+    let a = writeAccess (placeOf o) v in
+    pick-most (eqb a 0) (writeRule (d .registers) (placeOf o) v) a (write-rule-most (d .registers) (placeOf o) v) (write-access-most (placeOf o) v)

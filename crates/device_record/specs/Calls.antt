@@ -1,0 +1,126 @@
+-- What each call on records answers, and what it leaves in the bytes that are lent to it. A refused call leaves them all as they were.
+use Prim.Native.Nat.{ℕ}
+use mathlib.Core.Path.{_≡_}
+use mathlib.Core.Bool.{Bool, not, _||_}
+use mathlib.Core.List.{List}
+use lib.ListN.{length, take}
+use lib.Dec.{eqb}
+use Rattle.registers.specs.Choose.{pick}
+use Rattle.registers.specs.Refusals.{done, firstOf, refusalOf}
+use Rattle.registers.specs.declared.access.Answer.{Answer}
+use Rattle.registers.specs.declared.access.Answer.the-variants.{Refused}
+use Rattle.serial.specs.Cycle.{DeviceModel, resetDevice}
+use Rattle.serial.specs.Access.{readAnswerOf, readDevice, writeRefusalOf, writeDevice}
+use Rattle.serial.specs.Pair.{PairModel, later}
+use Rattle.device_record.specs.Record.{recordLength, encodeOf, decodeOf, soundBytes}
+use Rattle.device_record.specs.Run.{after, stopsOn, countUntil, written, wrongLength, unsound, runRefusal}
+use Rattle.device_record.specs.declared.calls.RunAnswer.{RunAnswer}
+use Rattle.device_record.specs.declared.run.Rule.{Rule}
+
+-- A record after a call: the encoding of a device where the call is done, else the bytes as they were.
+abbrev pub leftBy : ℕ → DeviceModel → List ℕ → List ℕ
+leftBy refusal d bytes = pick (eqb refusal done) (encodeOf d) bytes
+
+-- Reset ----------------------------------------------------------------------------------------------------------------
+
+-- Refused only with 10, whatever the bytes held.
+unfoldable pub resetRefusal : List ℕ → ℕ
+resetRefusal bytes = pick (not (eqb (length bytes) recordLength)) wrongLength done
+
+abbrev pub resetLeft : List ℕ → List ℕ
+resetLeft bytes = leftBy (resetRefusal bytes) resetDevice bytes
+
+pub record ResetCall (bytes : List ℕ) (r : ℕ) (bytes′ : List ℕ) : Type 0 where
+  pub refusal : r ≡ resetRefusal bytes
+  pub left : bytes′ ≡ resetLeft bytes
+
+-- Accesses -------------------------------------------------------------------------------------------------------------
+
+-- 10, then 9: what comes before an access's own refusals.
+unfoldable pub recordRefusal : List ℕ → ℕ
+recordRefusal bytes =
+    pick (not (eqb (length bytes) recordLength)) wrongLength
+    (pick (not (soundBytes bytes)) unsound
+    done)
+
+-- A read answers with a word or with a refusal number.
+unfoldable pub readCall : List ℕ → ℕ → Answer
+readCall bytes o = pick (eqb (recordRefusal bytes) done) (readAnswerOf (decodeOf bytes) o) (Refused (recordRefusal bytes))
+
+abbrev pub readLeft : List ℕ → ℕ → List ℕ
+readLeft bytes o = leftBy (refusalOf (readCall bytes o)) (readDevice (decodeOf bytes) o) bytes
+
+pub record ReadCall (bytes : List ℕ) (o : ℕ) (r : Answer) (bytes′ : List ℕ) : Type 0 where
+  pub answer : r ≡ readCall bytes o
+  pub left : bytes′ ≡ readLeft bytes o
+
+unfoldable pub writeCall : List ℕ → ℕ → ℕ → ℕ
+writeCall bytes o v = firstOf (recordRefusal bytes) (writeRefusalOf (decodeOf bytes) o v)
+
+abbrev pub writeLeft : List ℕ → ℕ → ℕ → List ℕ
+writeLeft bytes o v = leftBy (writeCall bytes o v) (writeDevice (decodeOf bytes) o v) bytes
+
+pub record WriteCall (bytes : List ℕ) (o v r : ℕ) (bytes′ : List ℕ) : Type 0 where
+  pub refusal : r ≡ writeCall bytes o v
+  pub left : bytes′ ≡ writeLeft bytes o v
+
+-- Runs -----------------------------------------------------------------------------------------------------------------
+
+-- The cycles of a run by a stopping rule; 0 where it is refused.
+unfoldable pub runCount : Rule → List ℕ → List ℕ → List ℕ → ℕ
+runCount rule bytes ins outs = pick (eqb (runRefusal bytes ins outs) done) (countUntil (stopsOn rule) (decodeOf bytes) ins) 0
+
+-- As many cycles as the count says; output bytes past them stay.
+abbrev pub runLeft : Rule → List ℕ → List ℕ → List ℕ → List ℕ
+runLeft rule bytes ins outs = leftBy (runRefusal bytes ins outs) (after (decodeOf bytes) (take (runCount rule bytes ins outs) ins)) bytes
+
+abbrev pub runOutput : Rule → List ℕ → List ℕ → List ℕ → List ℕ
+runOutput rule bytes ins outs = pick (eqb (runRefusal bytes ins outs) done) (written (decodeOf bytes) (runCount rule bytes ins outs) ins outs) outs
+
+pub record RunCall (rule : Rule) (bytes ins outs : List ℕ) (r : RunAnswer) (bytes′ outs′ : List ℕ) : Type 0 where
+  pub refusal : r .refusal ≡ runRefusal bytes ins outs
+  pub count : r .count ≡ runCount rule bytes ins outs
+  pub left : bytes′ ≡ runLeft rule bytes ins outs
+  pub output : outs′ ≡ runOutput rule bytes ins outs
+
+-- Pairs ----------------------------------------------------------------------------------------------------------------
+
+-- 10, then 9, if either record would be refused so.
+unfoldable pub pairRefusal : List ℕ → List ℕ → ℕ
+pairRefusal one two =
+    pick (not (eqb (length one) recordLength) || not (eqb (length two) recordLength)) wrongLength
+    (pick (not (soundBytes one) || not (soundBytes two)) unsound
+    done)
+
+-- The two devices of the records, after so many pair cycles.
+unfoldable pub pairAfter : List ℕ → List ℕ → ℕ → PairModel
+pairAfter one two n = later n (record { first = decodeOf one; second = decodeOf two })
+
+-- Both records hold the devices after that many pair cycles.
+pub record Records : Type 0 where
+  pub one : List ℕ
+  pub two : List ℕ
+
+abbrev pub pairLeft : List ℕ → List ℕ → ℕ → Records
+pairLeft one two n =
+    record {
+      one = leftBy (pairRefusal one two) (pairAfter one two n .first) one;
+      two = leftBy (pairRefusal one two) (pairAfter one two n .second) two;
+    }
+
+pub record PairCall (one two : List ℕ) (n r : ℕ) (one′ two′ : List ℕ) : Type 0 where
+  pub refusal : r ≡ pairRefusal one two
+  pub first : one′ ≡ pairLeft one two n .one
+  pub second : two′ ≡ pairLeft one two n .two
+
+-- Histories ------------------------------------------------------------------------------------------------------------
+
+-- A record reached from reset: a reset that is done made it, and then every call, done or refused, took it as the one before had left it; the partner of a pair run may hold anything.
+pub data Reached : List ℕ → Type 0 where
+  reset : (bytes : List ℕ) → resetRefusal bytes ≡ done → Reached (resetLeft bytes)
+  again : (bytes : List ℕ) → Reached bytes → Reached (resetLeft bytes)
+  read : (bytes : List ℕ) (o : ℕ) → Reached bytes → Reached (readLeft bytes o)
+  write : (bytes : List ℕ) (o v : ℕ) → Reached bytes → Reached (writeLeft bytes o v)
+  run : (rule : Rule) (bytes ins outs : List ℕ) → Reached bytes → Reached (runLeft rule bytes ins outs)
+  first : (one two : List ℕ) (n : ℕ) → Reached one → Reached (pairLeft one two n .one)
+  second : (one two : List ℕ) (n : ℕ) → Reached two → Reached (pairLeft one two n .two)

@@ -1,0 +1,65 @@
+-- Demand 3 over the bytes of records, as a statement: steps played by what the calls leave. proofs/Demand3.antt proves both parts.
+use Prim.Native.Nat.{ℕ, _≤_}
+use mathlib.Core.Path.{_≡_}
+use mathlib.Core.Bool.{true}
+use mathlib.Core.List.{List, [], _∷_, _++_, map}
+use Rattle.registers.specs.declared.settings.Settings.{Settings}
+use Rattle.serial.specs.Bits.{cut}
+use Rattle.serial.specs.Lines.{pinsOf}
+use Rattle.serial.specs.Slots.{widthOf}
+use Rattle.serial.specs.Pair.{PairModel, later}
+use Rattle.serial.specs.Demand3.{Step, plays, cyclesIn, Stays, Start, Exchanged, slaveOn, enables, Enabling, WholeLoad}
+use Rattle.serial.specs.Demand3.Which.{master, slave}
+use Rattle.serial.specs.Demand3.Step.{cycle, read, write}
+use Rattle.device_record.specs.Record.{decodeOf, soundBytes}
+use Rattle.device_record.specs.Run.{outputs}
+use Rattle.device_record.specs.Calls.{Records, readLeft, writeLeft, pairLeft}
+
+-- The devices that two records stand for.
+abbrev pub devicesOf : Records → PairModel
+devicesOf r = record { first = decodeOf (r .one); second = decodeOf (r .two) }
+
+-- What a pair run of n cycles leaves.
+abbrev pub runBytes : ℕ → Records → Records
+runBytes n r = pairLeft (r .one) (r .two) n
+
+-- What each step leaves: a pair cycle is a pair run of one.
+abbrev pub playBytes : Step → Records → Records
+playBytes cycle r = runBytes 1 r
+playBytes (read master o) r = record { one = readLeft (r .one) o; two = r .two }
+playBytes (read slave o) r = record { one = r .one; two = readLeft (r .two) o }
+playBytes (write master o v) r = record { one = writeLeft (r .one) o v; two = r .two }
+playBytes (write slave o v) r = record { one = r .one; two = writeLeft (r .two) o v }
+
+abbrev pub playsBytes : List Step → Records → Records
+playsBytes [] r = r
+playsBytes (x ∷ xs) r = playsBytes xs (playBytes x r)
+
+pub record SoundRecords (r : Records) : Type 0 where
+  pub one : soundBytes (r .one) ≡ true
+  pub two : soundBytes (r .two) ≡ true
+
+-- The whole list of steps up to the master's enabling, with the two CR1 writes in their places.
+abbrev pub steps : List Step → List Step → PairModel → List Step
+steps pre mid p = pre ++ (enables slave (plays pre p) ∷ (mid ++ (enables master (plays mid (slaveOn pre p)) ∷ [])))
+
+-- Two records whose devices exchange their words as demand 3 has it, pair run by pair run on the records themselves.
+pub record ExchangedRecords (r : Records) : Type 0 where
+  pub sound : SoundRecords r
+  pub exchanged : Exchanged (devicesOf r)
+  pub after : (n : ℕ) → devicesOf (runBytes n r) ≡ later n (devicesOf r)
+
+-- The first part: from any two sound records, set up as demand 3 has it, the steps leave such records.
+abbrev pub Demand3Records : Type 0
+Demand3Records =
+    (r : Records) (pre mid : List Step) → SoundRecords r → Start (devicesOf r) → 4 ≤ cyclesIn pre → Stays pre (devicesOf r) → Stays mid (slaveOn pre (devicesOf r))
+    → ExchangedRecords (playsBytes (steps pre mid (devicesOf r)) r)
+
+-- The last sentence: the bytes that a run gives after the write that enabled a master determine its load, cut.
+abbrev pub LastSentenceRecords : Type 0
+LastSentenceRecords =
+    (s : Settings) (b b′ : List ℕ) (o v o′ v′ : ℕ) → soundBytes b ≡ true → soundBytes b′ ≡ true
+    → Enabling s (decodeOf b) o v → Enabling s (decodeOf b′) o′ v′ → (ins ins′ : List ℕ)
+    → WholeLoad s (decodeOf (writeLeft b o v)) (map pinsOf ins) → WholeLoad s (decodeOf (writeLeft b′ o′ v′)) (map pinsOf ins′)
+    → outputs (decodeOf (writeLeft b o v)) ins ≡ outputs (decodeOf (writeLeft b′ o′ v′)) ins′
+    → map (cut (widthOf s)) (decodeOf (writeLeft b o v) .registers .tx) ≡ map (cut (widthOf s)) (decodeOf (writeLeft b′ o′ v′) .registers .tx)

@@ -1,0 +1,181 @@
+// The calls on records: what each answers, and what it leaves in the bytes that are lent to it.
+ghost use mathlib.Core.Path.{_≡_};
+ghost use Rattle.registers.specs.Refusals.{refusalOf};
+ghost use Rattle.device_record.specs.Run.{runRefusal};
+ghost use Rattle.device_record.specs.Calls.{resetRefusal, recordRefusal, pairRefusal, ResetCall, ReadCall, WriteCall, RunCall, PairCall};
+use crate::record::RECORD_LENGTH;
+use crate::run::Rule;
+use registers::access::Answer;
+use serial::pair::Wired;
+
+// Refusal numbers, in the order in which they are checked; those of an access come after them.
+pub const DONE: u8 = 0;
+
+const WRONG_LENGTH: u8 = 10;
+
+const LINES_DIFFER: u8 = 11;
+
+const BAD_INPUT: u8 = 12;
+
+const UNSOUND: u8 = 9;
+
+// What a run answers.
+pub struct RunAnswer {
+    pub refusal: u8,
+    // cycles run, 0 where it is refused
+    pub count: usize,
+}
+
+fn reset_refusal(bytes: &[u8]) -> u8
+    ensures { λ r. ⌜ r ≡ resetRefusal (now (bytes .entry)) ⌝ }
+{
+    let wrong = bytes.len() != RECORD_LENGTH;
+    if wrong { WRONG_LENGTH } else { DONE }
+}
+
+fn record_refusal(bytes: &[u8]) -> u8
+    ensures { λ r. ⌜ r ≡ recordRefusal (now (bytes .entry)) ⌝ }
+{
+    let wrong = bytes.len() != RECORD_LENGTH;
+    if wrong {
+        return WRONG_LENGTH;
+    }
+    let unsound = !crate::record::sound(bytes);
+    if unsound { UNSOUND } else { DONE }
+}
+
+fn run_refusal(bytes: &[u8], input: &[u8], output: &[u8]) -> u8
+    ensures { λ r. ⌜ r ≡ runRefusal (now (bytes .entry)) (now (input .entry)) (now (output .entry)) ⌝ }
+{
+    let wrong = bytes.len() != RECORD_LENGTH;
+    if wrong {
+        return WRONG_LENGTH;
+    }
+    let differ = input.len() != output.len();
+    if differ {
+        return LINES_DIFFER;
+    }
+    let bad = !crate::run::inputs_fit(input);
+    if bad {
+        return BAD_INPUT;
+    }
+    let unsound = !crate::record::sound(bytes);
+    if unsound { UNSOUND } else { DONE }
+}
+
+fn pair_refusal(first: &[u8], second: &[u8]) -> u8
+    ensures { λ r. ⌜ r ≡ pairRefusal (now (first .entry)) (now (second .entry)) ⌝ }
+{
+    let wrong = (first.len() != RECORD_LENGTH) | (second.len() != RECORD_LENGTH);
+    if wrong {
+        return WRONG_LENGTH;
+    }
+    let one = crate::record::sound(first);
+    let two = crate::record::sound(second);
+    let unsound = !one | !two;
+    if unsound { UNSOUND } else { DONE }
+}
+
+// An answer's refusal number.
+pub fn refusal_of(answer: Answer) -> u8
+    ensures { λ r. ⌜ r ≡ refusalOf answer ⌝ }
+{
+    match answer {
+        Answer::Word(_) => DONE,
+        Answer::Refused(number) => number,
+    }
+}
+
+// Makes the record that of a device as after reset, whatever it held.
+pub fn reset(bytes: &mut [u8]) -> u8
+    ensures { λ r. ⌜ ResetCall (now (bytes .entry)) r (now (bytes .exit)) ⌝ }
+{
+    let refusal = reset_refusal(bytes);
+    let done = refusal == DONE;
+    if done {
+        crate::record::encode(serial::reset(), bytes);
+        return DONE;
+    }
+    refusal
+}
+
+// Reads a register.
+pub fn read(bytes: &mut [u8], offset: u32) -> Answer
+    ensures { λ r. ⌜ ReadCall (now (bytes .entry)) offset r (now (bytes .exit)) ⌝ }
+{
+    let refusal = record_refusal(bytes);
+    let fine = refusal == DONE;
+    if fine {
+        let reading = serial::access::read(crate::record::decode(bytes), offset);
+        let answer = reading.answer;
+        let Answer::Word(word) = answer else {
+            return answer;
+        };
+        let device = reading.device;
+        crate::record::encode(device, bytes);
+        return Answer::Word(word);
+    }
+    Answer::Refused(refusal)
+}
+
+// Writes a register.
+pub fn write(bytes: &mut [u8], offset: u32, value: u32) -> u8
+    ensures { λ r. ⌜ WriteCall (now (bytes .entry)) offset value r (now (bytes .exit)) ⌝ }
+{
+    let refusal = record_refusal(bytes);
+    let fine = refusal == DONE;
+    if fine {
+        let written = serial::access::write(crate::record::decode(bytes), offset, value);
+        let number = written.refusal;
+        let done = number == 0;
+        if done {
+            let device = written.device;
+            crate::record::encode(device, bytes);
+            return DONE;
+        }
+        return number;
+    }
+    refusal
+}
+
+// Runs cycles up to a stopping rule, and counts them.
+pub fn run(rule: Rule, bytes: &mut [u8], input: &[u8], output: &mut [u8]) -> RunAnswer
+    ensures { λ r. ⌜ RunCall rule (now (bytes .entry)) (now (input .entry)) (now (output .entry)) r (now (bytes .exit)) (now (output .exit)) ⌝ }
+{
+    let refusal = run_refusal(bytes, input, output);
+    let done = refusal == DONE;
+    if done {
+        let start = crate::record::decode(bytes);
+        let ran = crate::run::run_until(rule, start, input, output);
+        let device = ran.device;
+        crate::record::encode(device, bytes);
+        return RunAnswer {
+            refusal: DONE,
+            count: ran.count,
+        };
+    }
+    RunAnswer { refusal, count: 0 }
+}
+
+// Runs two wired devices for so many cycles.
+pub fn pair_run(first: &mut [u8], second: &mut [u8], cycles: u64) -> u8
+    ensures { λ r. ⌜ PairCall (now (first .entry)) (now (second .entry)) cycles r (now (first .exit)) (now (second .exit)) ⌝ }
+{
+    let refusal = pair_refusal(first, second);
+    let done = refusal == DONE;
+    if done {
+        let one = crate::record::decode(first);
+        let two = crate::record::decode(second);
+        let start = Wired {
+            first: one,
+            second: two,
+        };
+        let end = serial::pair::pair_run(start, cycles);
+        let after_one = end.first;
+        let after_two = end.second;
+        crate::record::encode(after_one, first);
+        crate::record::encode(after_two, second);
+        return DONE;
+    }
+    refusal
+}

@@ -1,0 +1,93 @@
+// Runs: one cycle for each input byte, up to a stopping rule.
+ghost use mathlib.Core.Path.{_≡_};
+ghost use Rattle.serial.specs.Cycle.{deviceOf};
+ghost use Rattle.serial.specs.Busy.{busyDevice};
+ghost use Rattle.device_record.specs.Run.{steppedOf, inputsFit, stopsOn, RanAs};
+use registers::access::Answer;
+use serial::Device;
+
+// The offset of SR, and the weight of BSY in it.
+const STATUS: u32 = 0x0C;
+
+const BUSY: u16 = 16;
+
+// An input byte is at most this.
+const HIGHEST_INPUT: u8 = 7;
+
+// Where a run stops before its input ends.
+pub enum Rule {
+    // nowhere
+    Never,
+    // where BSY is 0
+    Idle,
+}
+
+// The cycles run, and the device after them.
+pub struct Ran {
+    pub count: usize,
+    pub device: Device,
+}
+
+// Whether every input byte is one.
+pub fn inputs_fit(input: &[u8]) -> bool
+    ensures { λ r. ⌜ r ≡ inputsFit (now (input .entry)) ⌝ }
+{
+    let mut at: usize = 0;
+    while at < input.len() {
+        let byte = input[at];
+        if HIGHEST_INPUT < byte {
+            return false;
+        }
+        at += 1;
+    }
+    true
+}
+
+// BSY, as a read of SR gives it.
+pub fn busy(d: Device) -> bool
+    ensures { λ r. ⌜ r ≡ busyDevice (deviceOf d) ⌝ }
+{
+    let reading = serial::access::read(d, STATUS);
+    let answer = reading.answer;
+    let Answer::Word(status) = answer else {
+        return false;
+    };
+    status / BUSY % 2 == 1
+}
+
+fn stops(rule: Rule, d: Device) -> bool
+    ensures { λ r. ⌜ r ≡ stopsOn rule (deviceOf d) ⌝ }
+{
+    match rule {
+        Rule::Never => false,
+        Rule::Idle => !busy(d),
+    }
+}
+
+// A cycle with the pins of an input byte.
+fn stepped(d: Device, byte: u8) -> Device
+    ensures { λ r. ⌜ deviceOf r ≡ steppedOf (deviceOf d) byte ⌝ }
+{
+    serial::cycle::cycle(d, serial::lines::pins_of(byte))
+}
+
+// Cycles until the rule holds or the input ends; output bytes past them stay. Nothing is run where the lengths differ.
+pub fn run_until(rule: Rule, d: Device, input: &[u8], output: &mut [u8]) -> Ran
+    ensures { λ r. ⌜ RanAs (stopsOn rule) (deviceOf d) (now (input .entry)) (now (output .entry)) r (now (output .exit)) ⌝ }
+{
+    let mut device = d;
+    let mut i: usize = 0;
+    if input.len() != output.len() {
+        return Ran { count: 0, device };
+    }
+    while i < input.len() {
+        let done = stops(rule, device);
+        if done {
+            return Ran { count: i, device };
+        }
+        device = stepped(device, input[i]);
+        output[i] = serial::lines::byte_of(device.lines);
+        i += 1;
+    }
+    Ran { count: i, device }
+}

@@ -1,0 +1,32 @@
+-- What the C calls hand out: a read's answer as two numbers, and a run's as one or two. The rules are those of the crates below.
+use Prim.Native.Nat.{ℕ}
+use mathlib.Core.Path.{_≡_}
+use mathlib.Core.List.{List}
+use lib.Dec.{eqb}
+use Rattle.registers.specs.Choose.{pick}
+use Rattle.registers.specs.Refusals.{done, refusalOf, wordOf}
+use Rattle.device_record.specs.Record.{decodeOf}
+use Rattle.device_record.specs.Run.{after, outputs, runRefusal}
+use Rattle.device_record.specs.Calls.{leftBy, readCall, readLeft, runCount, runLeft, runOutput}
+use Rattle.device_record.specs.declared.run.Rule.the-variants.{Idle}
+use Rattle.pl022.specs.declared.WordResult.{WordResult}
+use Rattle.pl022.specs.declared.CountResult.{CountResult}
+
+-- A read: a word with refusal 0, or a refusal number with word 0.
+pub record ReadResult (bytes : List ℕ) (o : ℕ) (r : WordResult) (bytes′ : List ℕ) : Type 0 where
+  pub refusal : r .refusal ≡ refusalOf (readCall bytes o)
+  pub word : r .word ≡ wordOf (readCall bytes o)
+  pub left : bytes′ ≡ readLeft bytes o
+
+-- A run: a cycle for each input byte, the lines of each in its place of the output.
+pub record RunResult (bytes ins outs : List ℕ) (r : ℕ) (bytes′ outs′ : List ℕ) : Type 0 where
+  pub refusal : r ≡ runRefusal bytes ins outs
+  pub left : bytes′ ≡ leftBy (runRefusal bytes ins outs) (after (decodeOf bytes) ins) bytes
+  pub output : outs′ ≡ pick (eqb (runRefusal bytes ins outs) done) (outputs (decodeOf bytes) ins) outs
+
+-- A run to idle: as many cycles as the count says; output bytes past them stay.
+pub record IdleResult (bytes ins outs : List ℕ) (r : CountResult) (bytes′ outs′ : List ℕ) : Type 0 where
+  pub refusal : r .refusal ≡ runRefusal bytes ins outs
+  pub count : r .count ≡ runCount Idle bytes ins outs
+  pub left : bytes′ ≡ runLeft Idle bytes ins outs
+  pub output : outs′ ≡ runOutput Idle bytes ins outs

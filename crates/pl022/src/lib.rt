@@ -1,0 +1,90 @@
+// The calls for C: numbers, the 128 bytes of a record and line bytes. include/pl022.h describes them for a C programmer.
+// Each hands its arguments to the crate below and its answer back; no rule of the device stands here.
+ghost use Rattle.device_record.specs.Calls.{ResetCall, WriteCall, PairCall};
+ghost use Rattle.pl022.specs.Results.{ReadResult, RunResult, IdleResult};
+use device_record::run::Rule;
+use registers::access::Answer;
+
+// What a read answers.
+#[repr(C)]
+pub struct WordResult {
+    pub refusal: u32,
+    // 0 where it is refused
+    pub word: u32,
+}
+
+// What a run to idle answers.
+#[repr(C)]
+pub struct CountResult {
+    pub refusal: u64,
+    // cycles run, 0 where it is refused
+    pub count: u64,
+}
+
+// Makes the record that of a device as after reset, whatever it held.
+#[no_mangle]
+pub extern "C" fn pl022_reset(bytes: &mut [u8]) -> u32
+    ensures { λ r. ⌜ ResetCall (now (bytes .entry)) r (now (bytes .exit)) ⌝ }
+{
+    device_record::calls::reset(bytes) as u32
+}
+
+// Reads a register.
+#[no_mangle]
+pub extern "C" fn pl022_read(bytes: &mut [u8], offset: u32) -> WordResult
+    ensures { λ r. ⌜ ReadResult (now (bytes .entry)) offset r (now (bytes .exit)) ⌝ }
+{
+    let answer = device_record::calls::read(bytes, offset);
+    let Answer::Word(word) = answer else {
+        let refusal = device_record::calls::refusal_of(answer);
+        return WordResult {
+            refusal: refusal as u32,
+            word: 0,
+        };
+    };
+    WordResult {
+        refusal: 0,
+        word: word as u32,
+    }
+}
+
+// Writes a register.
+#[no_mangle]
+pub extern "C" fn pl022_write(bytes: &mut [u8], offset: u32, value: u32) -> u32
+    ensures { λ r. ⌜ WriteCall (now (bytes .entry)) offset value r (now (bytes .exit)) ⌝ }
+{
+    device_record::calls::write(bytes, offset, value) as u32
+}
+
+// Runs a cycle for each input byte and writes the lines of each.
+#[no_mangle]
+pub extern "C" fn pl022_run(bytes: &mut [u8], input: &[u8], output: &mut [u8]) -> u32
+    ensures { λ r. ⌜ RunResult (now (bytes .entry)) (now (input .entry)) (now (output .entry)) r (now (bytes .exit)) (now (output .exit)) ⌝ }
+{
+    let end = device_record::calls::run(Rule::Never, bytes, input, output);
+    end.refusal as u32
+}
+
+// Runs until a cycle ends with BSY 0 or the input ends, and returns the number of cycles run.
+#[no_mangle]
+pub extern "C" fn pl022_run_to_idle(
+    bytes: &mut [u8],
+    input: &[u8],
+    output: &mut [u8],
+) -> CountResult
+    ensures { λ r. ⌜ IdleResult (now (bytes .entry)) (now (input .entry)) (now (output .entry)) r (now (bytes .exit)) (now (output .exit)) ⌝ }
+{
+    let end = device_record::calls::run(Rule::Idle, bytes, input, output);
+    CountResult {
+        refusal: end.refusal as u64,
+        count: end.count as u64,
+    }
+}
+
+// Runs two wired devices for so many cycles.
+#[no_mangle]
+pub extern "C" fn pl022_pair_run(first: &mut [u8], second: &mut [u8], cycles: u64) -> u32
+    ensures { λ r. ⌜ PairCall (now (first .entry)) (now (second .entry)) cycles r (now (first .exit)) (now (second .exit)) ⌝ }
+{
+    device_record::calls::pair_run(first, second, cycles) as u32
+}

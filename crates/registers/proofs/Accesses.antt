@@ -1,0 +1,133 @@
+-- What a done write says, and what an access leaves of CR0, CR1 and CPSR.
+use Prim.Native.Nat.{ℕ, _≤_, _<_}
+use mathlib.Core.Path.{_≡_, refl, sym, _∙_}
+use mathlib.Core.Bool.{Bool, true, false, not, _&&_, _||_}
+use native.Mathlib.Omega.{arith}
+use lib.Dec.{leb, eqb}
+use borrow.Author.Tests.{leb-false, eqb-true, eqb-false}
+use Rattle.registers.specs.Choose.{pick, bitAt, bitsDiffer}
+use Rattle.registers.proofs.Picks.{pick-yes, pick-no, pick-both, and-off, under-off, both-absurd}
+use Rattle.registers.specs.Refusals.{firstOf}
+use Rattle.registers.specs.Model.{Model}
+use Rattle.registers.specs.Offsets.{placeOf}
+use Rattle.registers.specs.Settings.{enabledOf, permittedOf}
+use Rattle.registers.specs.Access.{readRefusal, readDone, readModel, dataTaken, bitsBeyond, cr0Rule, cr1Rule, cpsrRule, writeRefusal, cr1Written, icrWritten, drWritten, imscWritten, dmacrWritten, writeDone, writeModel}
+use Rattle.registers.specs.declared.offsets.Place.{Place}
+use Rattle.registers.specs.declared.offsets.Place.the-variants.{Cr0, Cr1, Dr, Sr, Cpsr, Imsc, Ris, Mis, Icr, Dmacr, Identity, Reserved, Outside}
+
+-- What a done write says ---------------------------------------------------------------------------------------------
+
+-- of two refusals neither applies
+pub first-done : (a b : ℕ) → firstOf a b ≡ 0 → (a ≡ 0) × (b ≡ 0)
+first-done a b h = go (eqb a 0) refl
+  where
+    go : (t : Bool) → eqb a 0 ≡ t → (a ≡ 0) × (b ≡ 0)
+    go true e = (eqb-true a 0 e, sym (pick-yes b a e) ∙ h)
+    go false e = absurd (eqb-false a 0 e (sym (pick-no b a e) ∙ h))
+
+-- a refusal number that is not given
+pick-passed : (t : Bool) (n k : ℕ) → 1 ≤ n → pick t n k ≡ 0 → (t ≡ false) × (k ≡ 0)
+pick-passed true n k p h = absurd (omega arith)
+pick-passed false n k p h = (refl, h)
+
+pick-met : (t : Bool) (n : ℕ) → 1 ≤ n → pick t 0 n ≡ 0 → t ≡ true
+pick-met true n p h = refl
+pick-met false n p h = absurd (omega arith)
+
+pub bits-done : (limit v : ℕ) → bitsBeyond limit v ≡ 0 → v < limit
+bits-done limit v h = leb-false limit v (pick-passed (leb limit v) 4 0 (omega arith) h .0)
+
+pub record Cr0Done (m : Model) (v : ℕ) : Type 0 where
+  pub small : v < 0x10000
+  pub clear : enabledOf (m .control) ≡ false
+  pub permitted : permittedOf v ≡ true
+
+pub cr0-done : (m : Model) (v : ℕ) → writeRefusal m Cr0 v ≡ 0 → Cr0Done m v
+unfolding writeRefusal cr0Rule
+cr0-done m v h =
+    let f = first-done _ _ h in
+    let r = pick-passed (enabledOf (m .control)) 5 _ (omega arith) (f .1) in
+    record { small = bits-done 0x10000 v (f .0); clear = r .0; permitted = pick-met (permittedOf v) 6 (omega arith) (r .1) }
+
+-- MS and LBM stay while SSE is 1; SSE is set only with permitted CR0 and CPSR not 0.
+pub record Cr1Done (m : Model) (v : ℕ) : Type 0 where
+  pub small : v < 0x10
+  pub stays : enabledOf (m .control) ≡ true → (bitsDiffer (m .control .cr1) v 2 || bitsDiffer (m .control .cr1) v 0) ≡ false
+  pub permitted : bitAt v 1 ≡ true → permittedOf (m .control .cr0) ≡ true
+  pub divided : bitAt v 1 ≡ true → 1 ≤ m .control .cpsr
+
+pub cr1-done : (m : Model) (v : ℕ) → writeRefusal m Cr1 v ≡ 0 → Cr1Done m v
+unfolding writeRefusal cr1Rule
+cr1-done m v h =
+    let f = first-done _ _ h in
+    let r = pick-passed (enabledOf (m .control) && (bitsDiffer (m .control .cr1) v 2 || bitsDiffer (m .control .cr1) v 0)) 5 _ (omega arith) (f .1) in
+    let s = pick-passed (bitAt v 1 && (not (permittedOf (m .control .cr0)) || eqb (m .control .cpsr) 0)) 6 0 (omega arith) (r .1) .0 in
+    record {
+      small = bits-done 0x10 v (f .0);
+      stays = λ e. and-off (enabledOf (m .control)) _ (r .0) e;
+      permitted = λ e. under-off (permittedOf (m .control .cr0)) _ (and-off (bitAt v 1) _ s e) .0;
+      divided = λ e. let z = eqb-false (m .control .cpsr) 0 (under-off (permittedOf (m .control .cr0)) _ (and-off (bitAt v 1) _ s e) .1) in omega arith;
+    }
+
+pub record CpsrDone (m : Model) (v : ℕ) : Type 0 where
+  pub small : v < 0x100
+  pub clear : enabledOf (m .control) ≡ false
+
+pub cpsr-done : (m : Model) (v : ℕ) → writeRefusal m Cpsr v ≡ 0 → CpsrDone m v
+unfolding writeRefusal cpsrRule
+cpsr-done m v h =
+    let f = first-done _ _ h in
+    record { small = bits-done 0x100 v (f .0); clear = pick-passed (enabledOf (m .control)) 5 0 (omega arith) (f .1) .0 }
+
+-- The control registers after an access -------------------------------------------------------------------------------
+
+-- a read leaves them
+
+control-place : (m : Model) (p : Place) → readDone m p .control ≡ m .control
+unfolding dataTaken
+control-place m Cr0 = refl
+control-place m Cr1 = refl
+control-place m Dr = refl
+control-place m Sr = refl
+control-place m Cpsr = refl
+control-place m Imsc = refl
+control-place m Ris = refl
+control-place m Mis = refl
+control-place m Icr = refl
+control-place m Dmacr = refl
+control-place m (Identity i) = refl
+control-place m Reserved = refl
+control-place m Outside = refl
+
+pub control-read : (m : Model) (o : ℕ) → readModel m o .control ≡ m .control
+unfolding readModel
+control-read m o =
+    pick-both (λ (x : Model). x .control ≡ m .control) (eqb (readRefusal m (placeOf o)) 0) _ _ (λ _. control-place m (placeOf o)) (λ _. refl)
+
+-- a write leaves CR0 and CPSR while SSE is 1
+
+pub record SameDivider (m n : Model) : Type 0 where
+  pub cr0 : n .control .cr0 ≡ m .control .cr0
+  pub cpsr : n .control .cpsr ≡ m .control .cpsr
+
+divider-written : (m : Model) (p : Place) (v : ℕ) → enabledOf (m .control) ≡ true → writeRefusal m p v ≡ 0 → SameDivider m (writeDone m p v)
+unfolding cr1Written icrWritten drWritten imscWritten dmacrWritten
+divider-written m Cr0 v e r = both-absurd (enabledOf (m .control)) e (cr0-done m v r .clear)
+divider-written m Cr1 v e r = record { cr0 = refl; cpsr = refl }
+divider-written m Dr v e r = record { cr0 = refl; cpsr = refl }
+divider-written m Sr v e r = record { cr0 = refl; cpsr = refl }
+divider-written m Cpsr v e r = both-absurd (enabledOf (m .control)) e (cpsr-done m v r .clear)
+divider-written m Imsc v e r = record { cr0 = refl; cpsr = refl }
+divider-written m Ris v e r = record { cr0 = refl; cpsr = refl }
+divider-written m Mis v e r = record { cr0 = refl; cpsr = refl }
+divider-written m Icr v e r = record { cr0 = refl; cpsr = refl }
+divider-written m Dmacr v e r = record { cr0 = refl; cpsr = refl }
+divider-written m (Identity i) v e r = record { cr0 = refl; cpsr = refl }
+divider-written m Reserved v e r = record { cr0 = refl; cpsr = refl }
+divider-written m Outside v e r = record { cr0 = refl; cpsr = refl }
+
+pub divider-write : (m : Model) (o v : ℕ) → enabledOf (m .control) ≡ true → SameDivider m (writeModel m o v)
+unfolding writeModel
+divider-write m o v e =
+    pick-both (λ (x : Model). SameDivider m x) (eqb (writeRefusal m (placeOf o) v) 0) _ _
+    (λ r. divider-written m (placeOf o) v e (eqb-true _ _ r)) (λ _. record { cr0 = refl; cpsr = refl })

@@ -1,0 +1,492 @@
+-- What a sound register file's tests say, and that every access and every step of the engine keeps them.
+use Prim.Native.Nat.{ℕ, _+_, _*_, _/_, _%_, _≤_, _<_}
+use mathlib.Core.Path.{_≡_, refl, sym, ap, _∙_}
+use mathlib.Core.Bool.{Bool, true, false, not, _&&_, _||_}
+use mathlib.Core.List.{List, [], _∷_, _++_}
+use native.Mathlib.Omega.{arith}
+use native.Mathlib.Nat.{mul-le-mul, mul-pos, mod-eq-of-lt}
+use lib.ListN.{length, getD, length-append}
+use lib.Dec.{ltb, leb, eqb}
+use borrow.Author.Tests.{ltb-true, leb-true, eqb-true, leb-false, eqb-false, lt-ltb, le-leb, eq-eqb, ne-eqb}
+use Rattle.queue.specs.Fifo.{added, rest}
+use Rattle.registers.specs.Choose.{bitAt}
+use Rattle.registers.proofs.Picks.{pick-yes, pick-no, pick-both, and-left, and-right, and-both, or-right, under-told, under-tell, not-told, not-tell, both-absurd}
+use Rattle.registers.specs.Time.{cyclesOf}
+use Rattle.registers.specs.Model.{Model, resetModel}
+use Rattle.registers.specs.Offsets.{placeOf}
+use Rattle.registers.specs.Settings.{permittedOf, enabledOf, halfOf, bitsOf, formatOf}
+use Rattle.registers.specs.Access.{readRefusal, readDone, readModel, dataTaken, keptCount, writeRefusal, cr0Written, cr1Written, cpsrWritten, icrWritten, drWritten, imscWritten, dmacrWritten, writeDone, writeModel}
+use Rattle.registers.proofs.Accesses.{cr0-done, cr1-done, cpsr-done}
+use Rattle.registers.specs.Transfer.{nextWord, limitOf, idlesOf, timeoutOf, sentModel, receivedModel, endedModel}
+use Rattle.registers.specs.Sound.{controlSound, masksSound, queuesSound, countSound, soundRegisters, wordsFit, registersFit}
+use Rattle.registers.specs.declared.Control.{Control}
+use Rattle.registers.specs.declared.Timeout.{Timeout}
+use Rattle.registers.specs.declared.time.Cycles.{Cycles}
+use Rattle.registers.specs.declared.offsets.Place.{Place}
+use Rattle.registers.specs.declared.offsets.Place.the-variants.{Cr0, Cr1, Dr, Sr, Cpsr, Imsc, Ris, Mis, Icr, Dmacr, Identity, Reserved, Outside}
+use Rattle.registers.specs.declared.settings.Format.{Format}
+use Rattle.registers.specs.declared.settings.Format.the-variants.{Reserved as ReservedFormat}
+
+-- The tests as facts -------------------------------------------------------------------------------------------------
+
+pub record ControlTold (c : Control) : Type 0 where
+  pub shape : (eqb (c .cr0) 0 || permittedOf (c .cr0)) ≡ true
+  pub even : c .cpsr % 2 ≡ 0
+  pub cr1 : c .cr1 ≤ 15
+  pub permitted : enabledOf c ≡ true → permittedOf (c .cr0) ≡ true
+  pub divided : enabledOf c ≡ true → 1 ≤ c .cpsr
+
+pub control-told : (c : Control) → controlSound c ≡ true → ControlTold c
+unfolding controlSound
+control-told c h =
+    let a = and-left ((eqb (c .cr0) 0 || permittedOf (c .cr0)) && eqb (c .cpsr % 2) 0) _ h in
+    let b = and-right ((eqb (c .cr0) 0 || permittedOf (c .cr0)) && eqb (c .cpsr % 2) 0) _ h in
+    let u = under-told (enabledOf c) _ (and-right (leb (c .cr1) 15) _ b) in
+    record {
+      shape = and-left (eqb (c .cr0) 0 || permittedOf (c .cr0)) _ a;
+      even = eqb-true _ _ (and-right (eqb (c .cr0) 0 || permittedOf (c .cr0)) _ a);
+      cr1 = leb-true _ _ (and-left (leb (c .cr1) 15) _ b);
+      permitted = λ k. and-left (permittedOf (c .cr0)) _ (u k);
+      divided = λ k. let z = eqb-false (c .cpsr) 0 (not-told _ (and-right (permittedOf (c .cr0)) _ (u k))) in omega arith;
+    }
+
+pub control-tell : (c : Control) → ControlTold c → controlSound c ≡ true
+unfolding controlSound
+control-tell c t =
+    and-both _ _ (and-both _ _ (t .shape) (eq-eqb _ _ (t .even)))
+    (and-both _ _ (le-leb _ _ (t .cr1))
+    (under-tell (enabledOf c) _ (λ k. and-both _ _ (t .permitted k) (not-tell _ (ne-eqb (c .cpsr) 0 (λ z. let o = t .divided k in omega arith))))))
+
+-- The timeout's count: below 64 slots with SSE set, 0 with SSE clear.
+pub record CountTold (c : Control) (n : ℕ) : Type 0 where
+  pub running : enabledOf c ≡ true → n < 64 * halfOf c
+  pub stopped : enabledOf c ≡ false → n ≡ 0
+
+pub record Told (m : Model) : Type 0 where
+  pub control : ControlTold (m .control)
+  pub imsc : m .masks .imsc ≤ 15
+  pub dmacr : m .masks .dmacr ≤ 3
+  pub tx : length (m .tx) ≤ 8
+  pub rx : length (m .rx) ≤ 8
+  pub count : CountTold (m .control) (m .timeout .count .0)
+
+pub sound-told : (m : Model) → soundRegisters m ≡ true → Told m
+unfolding soundRegisters masksSound queuesSound countSound limitOf cyclesOf
+sound-told m h =
+    let a = and-left (controlSound (m .control) && masksSound (m .masks)) _ h in
+    let b = and-right (controlSound (m .control) && masksSound (m .masks)) _ h in
+    let k = and-right (controlSound (m .control)) _ a in
+    let q = and-left (queuesSound m) _ b in
+    let n = and-right (queuesSound m) _ b in
+    record {
+      control = control-told (m .control) (and-left (controlSound (m .control)) _ a);
+      imsc = leb-true _ _ (and-left (leb (m .masks .imsc) 15) _ k);
+      dmacr = leb-true _ _ (and-right (leb (m .masks .imsc) 15) _ k);
+      tx = leb-true _ _ (and-left (leb (length (m .tx)) 8) _ q);
+      rx = leb-true _ _ (and-right (leb (length (m .tx)) 8) _ q);
+      count = record {
+        running = λ e. ltb-true _ _ (sym (pick-yes _ _ e) ∙ n);
+        stopped = λ e. eqb-true _ _ (sym (pick-no _ _ e) ∙ n);
+      };
+    }
+
+pub sound-tell : (m : Model) → Told m → soundRegisters m ≡ true
+unfolding soundRegisters masksSound queuesSound countSound limitOf cyclesOf
+sound-tell m t =
+    and-both _ _ (and-both _ _ (control-tell (m .control) (t .control)) (and-both _ _ (le-leb _ _ (t .imsc)) (le-leb _ _ (t .dmacr))))
+    (and-both _ _ (and-both _ _ (le-leb _ _ (t .tx)) (le-leb _ _ (t .rx)))
+    (pick-both (λ (x : Bool). x ≡ true) (enabledOf (m .control)) _ _ (λ e. lt-ltb _ _ (t .count .running e)) (λ e. eq-eqb _ _ (t .count .stopped e))))
+
+-- What SSE set means -------------------------------------------------------------------------------------------------
+
+pub half-positive : (c : Control) → ControlTold c → enabledOf c ≡ true → 1 ≤ halfOf c
+unfolding halfOf
+half-positive c t e = mul-pos (let o = t .divided e in let v = t .even in omega arith) (omega arith)
+
+pub half-most : (c : Control) → c .cpsr < 256 → halfOf c ≤ 32512
+unfolding halfOf
+half-most c h = mul-le-mul {n₂ = 127} {m₂ = 256} (omega arith) (omega arith)
+
+pub bits-least : (cr0 : ℕ) → permittedOf cr0 ≡ true → 4 ≤ bitsOf cr0
+unfolding permittedOf bitsOf
+bits-least cr0 h = let p = leb-true 3 (cr0 % 16) (and-right (ltb (cr0 / 16 % 4) 3) _ h) in omega arith
+
+pub bits-most : (cr0 : ℕ) → bitsOf cr0 ≤ 16
+unfolding bitsOf
+bits-most cr0 = omega arith
+
+pub format-known : (cr0 : ℕ) → permittedOf cr0 ≡ true → formatOf cr0 ≡ ReservedFormat → ⊥
+unfolding permittedOf formatOf
+format-known cr0 h =
+    pick-both (λ (f : Format). f ≡ ReservedFormat → ⊥) (eqb (cr0 / 16 % 4) 0) _ _ (λ _ e. let z : _≡_ {A = ℕ} 0 1 = cc in omega arith)
+    (λ a. pick-both (λ (f : Format). f ≡ ReservedFormat → ⊥) (eqb (cr0 / 16 % 4) 1) _ _ (λ _ e. let z : _≡_ {A = ℕ} 0 1 = cc in omega arith)
+    (λ b. pick-both (λ (f : Format). f ≡ ReservedFormat → ⊥) (eqb (cr0 / 16 % 4) 2) _ _ (λ _ e. let z : _≡_ {A = ℕ} 0 1 = cc in omega arith)
+    (λ c _. let l = ltb-true (cr0 / 16 % 4) 3 (and-left (ltb (cr0 / 16 % 4) 3) _ h) in omega (arith, eqb-false (cr0 / 16 % 4) 0 a, eqb-false (cr0 / 16 % 4) 1 b, eqb-false (cr0 / 16 % 4) 2 c))))
+
+-- all of it, of a sound control with SSE set
+pub record EnabledTold (c : Control) : Type 0 where
+  pub half : 1 ≤ halfOf c
+  pub least : 4 ≤ bitsOf (c .cr0)
+  pub most : bitsOf (c .cr0) ≤ 16
+  pub format : formatOf (c .cr0) ≡ ReservedFormat → ⊥
+
+pub enabled-told : (c : Control) → controlSound c ≡ true → enabledOf c ≡ true → EnabledTold c
+enabled-told c h e =
+    let t = control-told c h in
+    record {
+      half = half-positive c t e;
+      least = bits-least (c .cr0) (t .permitted e);
+      most = bits-most (c .cr0);
+      format = format-known (c .cr0) (t .permitted e);
+    }
+
+count-zero : (c : Control) → ControlTold c → CountTold c 0
+count-zero c t = record { running = λ e. let p = half-positive c t e in omega arith; stopped = λ _. refl }
+
+-- Queues -------------------------------------------------------------------------------------------------------------
+
+rest-most : (xs : List ℕ) → length xs ≤ 8 → length (rest xs) ≤ 8
+rest-most [] h = h
+rest-most (x ∷ xs) h = omega arith
+
+added-most : (xs : List ℕ) (w : ℕ) → length xs ≤ 8 → length (added xs w) ≤ 8
+unfolding added
+added-most xs w h =
+    pick-both (λ (l : List ℕ). length l ≤ 8) (ltb (length xs) 8) _ _ (λ e. let l = ltb-true (length xs) 8 e in simp length-append (omega arith)) (λ _. h)
+
+-- Reset and the engine's steps ---------------------------------------------------------------------------------------
+
+pub sound-reset : soundRegisters resetModel ≡ true
+unfolding soundRegisters controlSound masksSound queuesSound countSound enabledOf permittedOf
+sound-reset = refl
+
+pub sound-sent : (m : Model) → soundRegisters m ≡ true → soundRegisters (sentModel m) ≡ true
+unfolding sentModel
+sound-sent m h =
+    let t = sound-told m h in
+    sound-tell _ (record { control = t .control; imsc = t .imsc; dmacr = t .dmacr; tx = rest-most (m .tx) (t .tx); rx = t .rx; count = t .count })
+
+pub sound-received : (m : Model) (w : ℕ) → soundRegisters m ≡ true → soundRegisters (receivedModel m w) ≡ true
+unfolding receivedModel
+sound-received m w h =
+    let t = sound-told m h in
+    sound-tell _ (record { control = t .control; imsc = t .imsc; dmacr = t .dmacr; tx = t .tx; rx = added-most (m .rx) w (t .rx); count = t .count })
+
+-- the count at the end of a cycle
+count-ended : (m : Model) (frame : Bool) → Told m → CountTold (m .control) (timeoutOf m frame .count .0)
+unfolding timeoutOf limitOf cyclesOf idlesOf
+count-ended m frame t =
+    pick-both (λ (x : Timeout). CountTold (m .control) (x .count .0)) (idlesOf m frame) _ _
+    (λ i. pick-both (λ (x : Timeout). CountTold (m .control) (x .count .0)) (leb (64 * halfOf (m .control)) (m .timeout .count .0 + 1)) _ _
+    (λ _. count-zero (m .control) (t .control))
+    (λ k. record {
+      running = λ _. let l = leb-false (64 * halfOf (m .control)) (m .timeout .count .0 + 1) k in omega arith;
+      stopped = λ e. both-absurd (enabledOf (m .control)) (and-right (not (eqb (length (m .rx)) 0)) _ (and-left (not (eqb (length (m .rx)) 0) && enabledOf (m .control)) _ i)) e;
+    }))
+    (λ _. count-zero (m .control) (t .control))
+
+pub sound-ended : (m : Model) (frame : Bool) → soundRegisters m ≡ true → soundRegisters (endedModel m frame) ≡ true
+unfolding endedModel
+sound-ended m frame h =
+    let t = sound-told m h in
+    sound-tell _ (record { control = t .control; imsc = t .imsc; dmacr = t .dmacr; tx = t .tx; rx = t .rx; count = count-ended m frame t })
+
+-- Reading ------------------------------------------------------------------------------------------------------------
+
+sound-taken : (m : Model) → soundRegisters m ≡ true → soundRegisters (dataTaken m) ≡ true
+unfolding dataTaken
+sound-taken m h =
+    let t = sound-told m h in
+    sound-tell _ (record { control = t .control; imsc = t .imsc; dmacr = t .dmacr; tx = t .tx; rx = rest-most (m .rx) (t .rx); count = count-zero (m .control) (t .control) })
+
+sound-place : (m : Model) (p : Place) → soundRegisters m ≡ true → soundRegisters (readDone m p) ≡ true
+sound-place m Cr0 h = h
+sound-place m Cr1 h = h
+sound-place m Dr h = sound-taken m h
+sound-place m Sr h = h
+sound-place m Cpsr h = h
+sound-place m Imsc h = h
+sound-place m Ris h = h
+sound-place m Mis h = h
+sound-place m Icr h = h
+sound-place m Dmacr h = h
+sound-place m (Identity i) h = h
+sound-place m Reserved h = h
+sound-place m Outside h = h
+
+pub sound-read : (m : Model) (o : ℕ) → soundRegisters m ≡ true → soundRegisters (readModel m o) ≡ true
+unfolding readModel
+sound-read m o h = pick-both (λ (x : Model). soundRegisters x ≡ true) (eqb (readRefusal m (placeOf o)) 0) _ _ (λ _. sound-place m (placeOf o) h) (λ _. h)
+
+-- Writing ------------------------------------------------------------------------------------------------------------
+
+sound-cr0 : (m : Model) (v : ℕ) → soundRegisters m ≡ true → writeRefusal m Cr0 v ≡ 0 → soundRegisters (cr0Written m v) ≡ true
+unfolding cr0Written enabledOf
+sound-cr0 m v h r =
+    let t = sound-told m h in
+    let d = cr0-done m v r in
+    let p : permittedOf (v % 0x10000) ≡ true = rw (mod-eq-of-lt (d .small)) (d .permitted) in
+    sound-tell _ (record {
+      control = record {
+        shape = or-right (eqb (v % 0x10000) 0) _ p;
+        even = t .control .even;
+        cr1 = t .control .cr1;
+        permitted = λ _. p;
+        divided = λ e. both-absurd (enabledOf (m .control)) e (d .clear);
+      };
+      imsc = t .imsc;
+      dmacr = t .dmacr;
+      tx = t .tx;
+      rx = t .rx;
+      count = record { running = λ e. both-absurd (enabledOf (m .control)) e (d .clear); stopped = λ e. t .count .stopped e };
+    })
+
+-- the count that a written CR1 keeps
+count-enabling : (c c′ : Control) (n : ℕ) → CountTold c n → ControlTold c′ → halfOf c′ ≡ halfOf c → enabledOf c′ ≡ true → n < 64 * halfOf c′
+count-enabling c c′ n t u e k = go (enabledOf c) refl
+  where
+    go : (x : Bool) → enabledOf c ≡ x → n < 64 * halfOf c′
+    go true y = rw e (t .running y)
+    go false y = let z = t .stopped y in let p = half-positive c′ u k in omega arith
+
+sound-cr1 : (m : Model) (v : ℕ) → soundRegisters m ≡ true → writeRefusal m Cr1 v ≡ 0 → soundRegisters (cr1Written m v) ≡ true
+unfolding cr1Written enabledOf halfOf
+sound-cr1 m v h r =
+    let t = sound-told m h in
+    let d = cr1-done m v r in
+    let c : Control = record { cr0 = m .control .cr0; cr1 = v % 0x10; cpsr = m .control .cpsr } in
+    let same : bitAt (v % 0x10) 1 ≡ bitAt v 1 = ap (λ (x : ℕ). bitAt x 1) (mod-eq-of-lt (d .small)) in
+    let u : ControlTold c = record {
+      shape = t .control .shape;
+      even = t .control .even;
+      cr1 = let s = d .small in omega arith;
+      permitted = λ e. d .permitted (sym same ∙ e);
+      divided = λ e. d .divided (sym same ∙ e);
+    } in
+    sound-tell _ (record {
+      control = u;
+      imsc = t .imsc;
+      dmacr = t .dmacr;
+      tx = t .tx;
+      rx = t .rx;
+      count = pick-both (λ (x : Cycles). CountTold c (x .0)) (bitAt v 1) _ _
+          (λ y. record { running = λ e. count-enabling (m .control) c (m .timeout .count .0) (t .count) u refl e; stopped = λ e. both-absurd (bitAt v 1) y (sym same ∙ e) })
+          (λ _. count-zero c u);
+    })
+
+sound-cpsr : (m : Model) (v : ℕ) → soundRegisters m ≡ true → writeRefusal m Cpsr v ≡ 0 → soundRegisters (cpsrWritten m v) ≡ true
+unfolding cpsrWritten enabledOf
+sound-cpsr m v h r =
+    let t = sound-told m h in
+    let d = cpsr-done m v r in
+    sound-tell _ (record {
+      control = record {
+        shape = t .control .shape;
+        even = omega arith;
+        cr1 = t .control .cr1;
+        permitted = t .control .permitted;
+        divided = λ e. both-absurd (enabledOf (m .control)) e (d .clear);
+      };
+      imsc = t .imsc;
+      dmacr = t .dmacr;
+      tx = t .tx;
+      rx = t .rx;
+      count = record { running = λ e. both-absurd (enabledOf (m .control)) e (d .clear); stopped = λ e. t .count .stopped e };
+    })
+
+sound-icr : (m : Model) (v : ℕ) → soundRegisters m ≡ true → soundRegisters (icrWritten m v) ≡ true
+unfolding icrWritten
+sound-icr m v h =
+    let t = sound-told m h in
+    sound-tell _ (record {
+      control = t .control;
+      imsc = t .imsc;
+      dmacr = t .dmacr;
+      tx = t .tx;
+      rx = t .rx;
+      count = pick-both (λ (x : Cycles). CountTold (m .control) (x .0)) (not (bitAt v 1)) _ _ (λ _. t .count) (λ _. count-zero (m .control) (t .control));
+    })
+
+sound-dr : (m : Model) (v : ℕ) → soundRegisters m ≡ true → soundRegisters (drWritten m v) ≡ true
+unfolding drWritten
+sound-dr m v h =
+    let t = sound-told m h in
+    sound-tell _ (record { control = t .control; imsc = t .imsc; dmacr = t .dmacr; tx = added-most (m .tx) (v % 0x10000) (t .tx); rx = t .rx; count = t .count })
+
+sound-imsc : (m : Model) (v : ℕ) → soundRegisters m ≡ true → soundRegisters (imscWritten m v) ≡ true
+unfolding imscWritten
+sound-imsc m v h =
+    let t = sound-told m h in
+    sound-tell _ (record { control = t .control; imsc = omega arith; dmacr = t .dmacr; tx = t .tx; rx = t .rx; count = t .count })
+
+sound-dmacr : (m : Model) (v : ℕ) → soundRegisters m ≡ true → soundRegisters (dmacrWritten m v) ≡ true
+unfolding dmacrWritten
+sound-dmacr m v h =
+    let t = sound-told m h in
+    sound-tell _ (record { control = t .control; imsc = t .imsc; dmacr = omega arith; tx = t .tx; rx = t .rx; count = t .count })
+
+sound-written : (m : Model) (p : Place) (v : ℕ) → soundRegisters m ≡ true → writeRefusal m p v ≡ 0 → soundRegisters (writeDone m p v) ≡ true
+sound-written m Cr0 v h r = sound-cr0 m v h r
+sound-written m Cr1 v h r = sound-cr1 m v h r
+sound-written m Dr v h r = sound-dr m v h
+sound-written m Sr v h r = h
+sound-written m Cpsr v h r = sound-cpsr m v h r
+sound-written m Imsc v h r = sound-imsc m v h
+sound-written m Ris v h r = h
+sound-written m Mis v h r = h
+sound-written m Icr v h r = sound-icr m v h
+sound-written m Dmacr v h r = sound-dmacr m v h
+sound-written m (Identity i) v h r = h
+sound-written m Reserved v h r = h
+sound-written m Outside v h r = h
+
+pub sound-write : (m : Model) (o v : ℕ) → soundRegisters m ≡ true → soundRegisters (writeModel m o v) ≡ true
+unfolding writeModel
+sound-write m o v h =
+    pick-both (λ (x : Model). soundRegisters x ≡ true) (eqb (writeRefusal m (placeOf o) v) 0) _ _
+    (λ e. sound-written m (placeOf o) v h (eqb-true _ _ e)) (λ _. h)
+
+-- What the bytes of a record can hold --------------------------------------------------------------------------------
+
+pub record FitTold (m : Model) : Type 0 where
+  pub cr0 : m .control .cr0 < 0x10000
+  pub cpsr : m .control .cpsr < 0x100
+  pub count : m .timeout .count .0 < 0x100000000
+  pub tx : wordsFit (m .tx) ≡ true
+  pub rx : wordsFit (m .rx) ≡ true
+
+pub fits-told : (m : Model) → registersFit m ≡ true → FitTold m
+unfolding registersFit
+fits-told m h =
+    let a = and-left ((ltb (m .control .cr0) 0x10000 && ltb (m .control .cpsr) 0x100) && ltb (m .timeout .count .0) 0x100000000) _ h in
+    let b = and-right ((ltb (m .control .cr0) 0x10000 && ltb (m .control .cpsr) 0x100) && ltb (m .timeout .count .0) 0x100000000) _ h in
+    let c = and-left (ltb (m .control .cr0) 0x10000 && ltb (m .control .cpsr) 0x100) _ a in
+    record {
+      cr0 = ltb-true _ _ (and-left (ltb (m .control .cr0) 0x10000) _ c);
+      cpsr = ltb-true _ _ (and-right (ltb (m .control .cr0) 0x10000) _ c);
+      count = ltb-true _ _ (and-right (ltb (m .control .cr0) 0x10000 && ltb (m .control .cpsr) 0x100) _ a);
+      tx = and-left (wordsFit (m .tx)) _ b;
+      rx = and-right (wordsFit (m .tx)) _ b;
+    }
+
+pub fits-tell : (m : Model) → FitTold m → registersFit m ≡ true
+unfolding registersFit
+fits-tell m t =
+    and-both _ _ (and-both _ _ (and-both _ _ (lt-ltb _ _ (t .cr0)) (lt-ltb _ _ (t .cpsr))) (lt-ltb _ _ (t .count)))
+    (and-both _ _ (t .tx) (t .rx))
+
+rest-fits : (xs : List ℕ) → wordsFit xs ≡ true → wordsFit (rest xs) ≡ true
+unfolding wordsFit
+rest-fits [] h = h
+rest-fits (x ∷ xs) h = and-right (ltb x 0x10000) _ h
+
+append-fits : (xs : List ℕ) (w : ℕ) → w < 0x10000 → wordsFit xs ≡ true → wordsFit (xs ++ (w ∷ [])) ≡ true
+unfolding wordsFit
+append-fits [] w p h = and-both _ _ (lt-ltb _ _ p) refl
+append-fits (x ∷ xs) w p h = and-both _ _ (and-left (ltb x 0x10000) _ h) (append-fits xs w p (and-right (ltb x 0x10000) _ h))
+
+added-fits : (xs : List ℕ) (w : ℕ) → w < 0x10000 → wordsFit xs ≡ true → wordsFit (added xs w) ≡ true
+unfolding added
+added-fits xs w p h = pick-both (λ (l : List ℕ). wordsFit l ≡ true) (ltb (length xs) 8) _ _ (λ _. append-fits xs w p h) (λ _. h)
+
+-- the next word to send fits
+pub next-fits : (m : Model) → wordsFit (m .tx) ≡ true → nextWord m < 0x10000
+unfolding nextWord wordsFit
+next-fits m h = go (m .tx) h
+  where
+    go : (xs : List ℕ) → wordsFit xs ≡ true → getD xs 0 0 < 0x10000
+    go [] h = omega arith
+    go (x ∷ xs) h = ltb-true _ _ (and-left (ltb x 0x10000) _ h)
+
+pub fits-reset : registersFit resetModel ≡ true
+unfolding registersFit wordsFit
+fits-reset = refl
+
+pub fits-sent : (m : Model) → registersFit m ≡ true → registersFit (sentModel m) ≡ true
+unfolding sentModel
+fits-sent m h =
+    let t = fits-told m h in
+    fits-tell _ (record { cr0 = t .cr0; cpsr = t .cpsr; count = t .count; tx = rest-fits (m .tx) (t .tx); rx = t .rx })
+
+pub fits-received : (m : Model) (w : ℕ) → w < 0x10000 → registersFit m ≡ true → registersFit (receivedModel m w) ≡ true
+unfolding receivedModel
+fits-received m w p h =
+    let t = fits-told m h in
+    fits-tell _ (record { cr0 = t .cr0; cpsr = t .cpsr; count = t .count; tx = t .tx; rx = added-fits (m .rx) w p (t .rx) })
+
+pub fits-ended : (m : Model) (frame : Bool) → registersFit m ≡ true → registersFit (endedModel m frame) ≡ true
+unfolding endedModel timeoutOf limitOf cyclesOf
+fits-ended m frame h =
+    let t = fits-told m h in
+    fits-tell _ (record {
+      cr0 = t .cr0;
+      cpsr = t .cpsr;
+      count = pick-both (λ (x : Timeout). x .count .0 < 0x100000000) (idlesOf m frame) _ _
+          (λ _. pick-both (λ (x : Timeout). x .count .0 < 0x100000000) (leb (64 * halfOf (m .control)) (m .timeout .count .0 + 1)) _ _
+          (λ _. omega arith)
+          (λ k. let l = leb-false (64 * halfOf (m .control)) (m .timeout .count .0 + 1) k in let p = half-most (m .control) (t .cpsr) in omega arith))
+          (λ _. omega arith);
+      tx = t .tx;
+      rx = t .rx;
+    })
+
+fits-place : (m : Model) (p : Place) → registersFit m ≡ true → registersFit (readDone m p) ≡ true
+unfolding dataTaken
+fits-place m Cr0 h = h
+fits-place m Cr1 h = h
+fits-place m Dr h =
+    let t = fits-told m h in
+    fits-tell _ (record { cr0 = t .cr0; cpsr = t .cpsr; count = omega arith; tx = t .tx; rx = rest-fits (m .rx) (t .rx) })
+fits-place m Sr h = h
+fits-place m Cpsr h = h
+fits-place m Imsc h = h
+fits-place m Ris h = h
+fits-place m Mis h = h
+fits-place m Icr h = h
+fits-place m Dmacr h = h
+fits-place m (Identity i) h = h
+fits-place m Reserved h = h
+fits-place m Outside h = h
+
+pub fits-read : (m : Model) (o : ℕ) → registersFit m ≡ true → registersFit (readModel m o) ≡ true
+unfolding readModel
+fits-read m o h =
+    pick-both (λ (x : Model). registersFit x ≡ true) (eqb (readRefusal m (placeOf o)) 0) _ _ (λ _. fits-place m (placeOf o) h) (λ _. h)
+
+fits-kept : (keep : Bool) (n : Cycles) → n .0 < 0x100000000 → keptCount keep n .0 < 0x100000000
+fits-kept keep n h = pick-both (λ (x : Cycles). x .0 < 0x100000000) keep _ _ (λ _. h) (λ _. omega arith)
+
+fits-written : (m : Model) (p : Place) (v : ℕ) → registersFit m ≡ true → registersFit (writeDone m p v) ≡ true
+unfolding cr0Written cr1Written cpsrWritten icrWritten drWritten imscWritten dmacrWritten
+fits-written m Cr0 v h =
+    let t = fits-told m h in
+    fits-tell _ (record { cr0 = omega arith; cpsr = t .cpsr; count = t .count; tx = t .tx; rx = t .rx })
+fits-written m Cr1 v h =
+    let t = fits-told m h in
+    fits-tell _ (record { cr0 = t .cr0; cpsr = t .cpsr; count = fits-kept (bitAt v 1) (m .timeout .count) (t .count); tx = t .tx; rx = t .rx })
+fits-written m Dr v h =
+    let t = fits-told m h in
+    fits-tell _ (record { cr0 = t .cr0; cpsr = t .cpsr; count = t .count; tx = added-fits (m .tx) (v % 0x10000) (omega arith) (t .tx); rx = t .rx })
+fits-written m Sr v h = h
+fits-written m Cpsr v h =
+    let t = fits-told m h in
+    fits-tell _ (record { cr0 = t .cr0; cpsr = omega arith; count = t .count; tx = t .tx; rx = t .rx })
+fits-written m Imsc v h =
+    let t = fits-told m h in
+    fits-tell _ (record { cr0 = t .cr0; cpsr = t .cpsr; count = t .count; tx = t .tx; rx = t .rx })
+fits-written m Ris v h = h
+fits-written m Mis v h = h
+fits-written m Icr v h =
+    let t = fits-told m h in
+    fits-tell _ (record { cr0 = t .cr0; cpsr = t .cpsr; count = fits-kept (not (bitAt v 1)) (m .timeout .count) (t .count); tx = t .tx; rx = t .rx })
+fits-written m Dmacr v h =
+    let t = fits-told m h in
+    fits-tell _ (record { cr0 = t .cr0; cpsr = t .cpsr; count = t .count; tx = t .tx; rx = t .rx })
+fits-written m (Identity i) v h = h
+fits-written m Reserved v h = h
+fits-written m Outside v h = h
+
+pub fits-write : (m : Model) (o v : ℕ) → registersFit m ≡ true → registersFit (writeModel m o v) ≡ true
+unfolding writeModel
+fits-write m o v h =
+    pick-both (λ (x : Model). registersFit x ≡ true) (eqb (writeRefusal m (placeOf o) v) 0) _ _ (λ _. fits-written m (placeOf o) v h) (λ _. h)

@@ -1,0 +1,44 @@
+-- What a cycle leaves of the control registers, and what it does with SSE clear.
+use mathlib.Core.Path.{_≡_, refl, ap, _∙_}
+use mathlib.Core.Bool.{false}
+use Rattle.registers.proofs.Picks.{pick-no, pick-both}
+use Rattle.registers.specs.Model.{Model}
+use Rattle.registers.specs.Settings.{enabledOf, settingsOf}
+use Rattle.registers.specs.Transfer.{sentModel, receivedModel, endedModel}
+use Rattle.registers.specs.declared.settings.Settings.{Settings}
+use Rattle.serial.specs.Engine.{cleared, still}
+use Rattle.serial.specs.Master.{resting, masterEnd}
+use Rattle.serial.specs.Slave.{slaveEnd}
+use Rattle.serial.specs.Cycle.{DeviceModel, stepOf, endOf, takenModel, completeModel, stepModel, deviceStep, cycleOf}
+use Rattle.serial.specs.declared.engine.Engine.{Engine}
+use Rattle.serial.specs.declared.engine.Step.{Step}
+use Rattle.serial.specs.declared.lines.Pins.{Pins}
+
+-- what sending and receiving a word keep, a step keeps
+pub step-keeps : (P : Model → Type 0) (m : Model) (r : Step) → ((x : Model) → P x → P (sentModel x)) → ((x : Model) → P x → P (receivedModel x (r .word))) → P m → P (stepModel m r)
+unfolding takenModel completeModel
+step-keeps P m r f g h =
+    let t : P (takenModel m (r .takes)) = pick-both P (r .takes) _ _ (λ _. f m h) (λ _. h) in
+    pick-both P (r .complete) _ _ (λ _. g (takenModel m (r .takes)) t) (λ _. t)
+
+pub control-cycle : (d : DeviceModel) (pins : Pins) → cycleOf d pins .registers .control ≡ d .registers .control
+unfolding cycleOf endedModel sentModel receivedModel
+control-cycle d pins = step-keeps (λ (x : Model). x .control ≡ d .registers .control) (d .registers) (deviceStep d pins) (λ x h. h) (λ x h. h) refl
+
+pub masks-cycle : (d : DeviceModel) (pins : Pins) → cycleOf d pins .registers .masks ≡ d .registers .masks
+unfolding cycleOf endedModel sentModel receivedModel
+masks-cycle d pins = step-keeps (λ (x : Model). x .masks ≡ d .registers .masks) (d .registers) (deviceStep d pins) (λ x h. h) (λ x h. h) refl
+
+-- with SSE clear the engine is clear
+
+pub step-stopped : (d : DeviceModel) (pins : Pins) → enabledOf (d .registers .control) ≡ false → deviceStep d pins ≡ still cleared
+unfolding deviceStep stepOf settingsOf
+step-stopped d pins k = pick-no _ _ k
+
+pub end-cleared : (s : Settings) → endOf s cleared ≡ cleared
+unfolding endOf slaveEnd masterEnd resting
+end-cleared s = pick-both (λ (e : Engine). e ≡ cleared) (s .slave) _ _ (λ _. refl) (λ _. refl)
+
+pub cycle-stopped : (d : DeviceModel) (pins : Pins) → enabledOf (d .registers .control) ≡ false → cycleOf d pins .engine ≡ cleared
+unfolding cycleOf
+cycle-stopped d pins k = ap (λ (r : Step). endOf (settingsOf (d .registers .control)) (r .engine)) (step-stopped d pins k) ∙ end-cleared _

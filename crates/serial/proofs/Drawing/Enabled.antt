@@ -1,0 +1,85 @@
+-- Enabling: the CR1 write that sets SSE in a sound record leaves a fresh master, so its recording tells its load.
+use Prim.Native.Nat.{ℕ, _*_}
+use mathlib.Core.Path.{_≡_, refl, sym, ap, _∙_, subst}
+use mathlib.Core.Bool.{Bool, true, false, not, _&&_}
+use mathlib.Core.List.{List, map}
+use lib.Dec.{eqb}
+use lib.ListN.{length}
+use borrow.Author.Tests.{eqb-true}
+use Rattle.registers.proofs.Picks.{pick-no, and-left, and-right, not-told}
+use Rattle.registers.specs.Settings.{enabledOf, settingsOf}
+use Rattle.registers.specs.Access.{writeModel}
+use Rattle.registers.proofs.Soundness.{enabled-told, control-tell, sound-told}
+use Rattle.registers.specs.declared.settings.Settings.{Settings}
+use Rattle.serial.specs.Bits.{cut}
+use Rattle.serial.specs.Slots.{widthOf}
+use Rattle.serial.specs.Lines.{byteOf}
+use Rattle.serial.specs.Cycle.{DeviceModel}
+use Rattle.serial.proofs.Inputs.{Masters}
+use Rattle.serial.specs.Access.{engineAfter, writeDevice}
+use Rattle.serial.specs.Sound.{stoppedSound, engineSound, soundDevice}
+use Rattle.serial.proofs.Soundness.{sound-registers, sound-engine, sound-write}
+use Rattle.serial.specs.Drawing.{slotTotal, recording}
+use Rattle.serial.proofs.Drawing.Recorded.{Fresh, load-bytes-told}
+use Rattle.serial.specs.declared.engine.Engine.{Engine}
+use Rattle.serial.specs.declared.lines.Pins.{Pins}
+use Rattle.serial.specs.Demand3.{Enabling, LastSentence}
+
+-- no frame and no idle slot
+pub record Stopped (e : Engine) : Type 0 where
+  pub frame : e .frame ≡ false
+  pub slot : e .slot .0 ≡ 0
+  pub gone : e .gone .0 ≡ 0
+
+stopped-told : (e : Engine) → stoppedSound e ≡ true → Stopped e
+unfolding stoppedSound
+stopped-told e h =
+    let flags = and-left ((not (e .frame) && not (e .selected)) && not (e .mark)) _ h in
+    let counts = and-left (eqb (e .slot .0) 0 && eqb (e .gone .0) 0) _ (and-right ((not (e .frame) && not (e .selected)) && not (e .mark)) _ h) in
+    record {
+      frame = not-told (e .frame) (and-left (not (e .frame)) _ (and-left (not (e .frame) && not (e .selected)) _ flags));
+      slot = eqb-true (e .slot .0) 0 (and-left (eqb (e .slot .0) 0) _ counts);
+      gone = eqb-true (e .gone .0) 0 (and-right (eqb (e .slot .0) 0) _ counts);
+    }
+
+-- With SSE clear a sound engine is stopped.
+pub sound-stopped : (d : DeviceModel) → soundDevice d ≡ true → enabledOf (d .registers .control) ≡ false → Stopped (d .engine)
+unfolding engineSound settingsOf
+sound-stopped d h k = stopped-told (d .engine) (sym (pick-no _ _ k) ∙ sound-engine d h)
+
+-- A sound, enabled master whose engine is stopped.
+pub fresh-sound : (d : DeviceModel) → soundDevice d ≡ true → enabledOf (d .registers .control) ≡ true → Masters d → Stopped (d .engine) → Fresh (settingsOf (d .registers .control)) d
+unfolding settingsOf
+fresh-sound d h e m z =
+    let c = d .registers .control in
+    let t = enabled-told c (control-tell c (sound-told (d .registers) (sound-registers d h) .control)) e in
+    record {
+      set = refl;
+      enabled = e;
+      master = m;
+      serves = t .format;
+      least = t .least;
+      most = t .most;
+      half = t .half;
+      frame = z .frame;
+      slot = z .slot;
+      gone = z .gone;
+    }
+
+-- An access by which SSE goes from 0 to 1 leaves the engine.
+engine-enabling : (d : DeviceModel) (o v : ℕ) → enabledOf (d .registers .control) ≡ false → writeDevice d o v .engine ≡ d .engine
+unfolding writeDevice engineAfter
+engine-enabling d o v k = pick-no _ _ (ap (λ (t : Bool). t && not (enabledOf (writeModel (d .registers) o v .control))) k)
+
+pub fresh-enabling : (s : Settings) (d : DeviceModel) (o v : ℕ) → Enabling s d o v → Fresh s (writeDevice d o v)
+unfolding settingsOf
+fresh-enabling s d o v k =
+    let d′ = writeDevice d o v in
+    subst (λ (u : Settings). Fresh u d′) (k .set)
+    (fresh-sound d′ (sound-write d o v (k .sound)) (ap (λ (u : Settings). u .enabled) (k .set) ∙ k .enabled) (ap (λ (u : Settings). u .slave) (k .set) ∙ k .master)
+    (subst Stopped (sym (engine-enabling d o v (k .clear))) (sound-stopped d (k .sound) (k .clear))))
+
+-- Demand 3, its last sentence.
+pub enabling-told : LastSentence
+enabling-told s d d′ o v o′ v′ k k′ ps qs l l′ e =
+    load-bytes-told s (writeDevice d o v) (writeDevice d′ o′ v′) (fresh-enabling s d o v k) (fresh-enabling s d′ o′ v′ k′) ps qs l l′ e

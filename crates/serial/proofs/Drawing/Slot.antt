@@ -1,0 +1,320 @@
+-- Slots of a master alone: one event, then the same lines for h cycles; and the events' laws that all formats share.
+use Prim.Native.Nat.{ℕ, zero, suc, _+_, _-_, _≤_, _<_}
+use mathlib.Core.Path.{_≡_, refl, sym, ap, _∙_, subst}
+use mathlib.Core.Bool.{Bool, true, false, not, _&&_, and-false}
+use mathlib.Core.List.{List, [], _∷_, _++_}
+use native.Mathlib.Omega.{arith}
+use lib.Dec.{ltb, eqb}
+use lib.ListN.{length, getD, replicate}
+use borrow.Author.Tests.{lt-ltb, le-ltb, ne-eqb}
+use Rattle.registers.specs.Choose.{pick}
+use Rattle.registers.proofs.Picks.{pick-yes, pick-no}
+use Rattle.registers.specs.Time.{cycles, slots}
+use Rattle.registers.specs.Transfer.{rest}
+use Rattle.registers.specs.declared.settings.Format.{Format}
+use Rattle.registers.specs.declared.settings.Settings.{Settings}
+use Rattle.serial.specs.Bits.{bitOf}
+use Rattle.serial.specs.Engine.{cleared, clearShift, still, capturedOf, captureStep}
+use Rattle.serial.specs.Slots.{eventOf, lastSlot}
+use Rattle.serial.specs.Lines.{masterLines}
+use Rattle.serial.specs.Master.{act, resting, acting, dataBit, masterStep, ticked, masterEnd}
+use Rattle.serial.proofs.Exchange.Core.{waits}
+use Rattle.serial.proofs.Exchange.Ends.{waits-cons}
+use Rattle.serial.proofs.Exchange.Moves.{sending, shifted}
+use Rattle.serial.specs.Drawing.{idle, bitLines, stretch}
+use Rattle.serial.proofs.Drawing.Solo.{bare, bareStep, Solo, moves, acted, cycle, shows, Goes, none, more}
+use Rattle.serial.specs.declared.engine.Shift.{Shift}
+use Rattle.serial.specs.declared.engine.Engine.{Engine}
+use Rattle.serial.specs.declared.engine.Step.{Step}
+use Rattle.serial.specs.declared.lines.Lines.{Lines}
+use Rattle.serial.specs.declared.slots.Event.{Event}
+use Rattle.serial.specs.declared.slots.Event.the-variants.{Release}
+
+-- the settings of an enabled master, with its format and phase
+abbrev pub fixed : Format → Bool → Settings → Settings
+fixed f phase s =
+    record { format = f; phase = phase; polarity = s .polarity; bits = s .bits; half = s .half; slave = false; silent = s .silent; loopback = s .loopback; enabled = true }
+
+abbrev pub solo : List ℕ → Engine → Solo
+solo tx e = record { tx = tx; engine = e }
+
+-- A slot is h cycles ---------------------------------------------------------------------------------------------------
+
+-- with c cycles of the slot gone
+abbrev pub at : ℕ → Engine → Engine
+at c e = record { slot = e .slot; gone = cycles c; frame = e .frame; selected = e .selected; mark = e .mark; shift = e .shift }
+
+-- in a frame or in an idle slot
+abbrev pub Live : Engine → Type 0
+Live e = (not (e .frame) && eqb (e .slot .0) 0) ≡ false
+
+module _ (s : Settings) where
+  -- in the next slot
+  unfoldable pub onward : Engine → Engine
+  onward e =
+      pick (ltb (e .slot .0) (lastSlot s))
+      (record { slot = slots (e .slot .0 + 1); gone = cycles 0; frame = e .frame; selected = e .selected; mark = e .mark; shift = e .shift })
+      cleared
+
+  -- after c cycles of the slot
+  abbrev pub past : ℕ → Engine → Engine
+  past c e = pick (ltb c (s .half)) (at c e) (onward e)
+
+  end-slot : (e : Engine) (c : ℕ) → Live e → masterEnd s (at c e) ≡ past (c + 1) e
+  unfolding masterEnd resting ticked onward
+  end-slot e c live = ap (λ (t : Bool). pick (t && eqb c 0) (at c e) (past (c + 1) e)) live
+
+  -- events happen in a slot's first cycle only
+  acted-in : (tx : List ℕ) (e : Engine) (c : ℕ) → acted s (solo tx (at (c + 1) (bare e))) ≡ solo tx (at (c + 1) (bare e))
+  unfolding acted moves masterStep acting resting
+  acted-in tx e c = rw (ne-eqb (c + 1) 0 (omega arith), and-false (e .frame), and-false (not (e .frame) && eqb (e .slot .0) 0))
+
+  pub cycle-in : (tx : List ℕ) (e : Engine) (c : ℕ) → Live e → cycle s (solo tx (at (c + 1) (bare e))) ≡ solo tx (past (c + 1 + 1) (bare e))
+  unfolding cycle
+  cycle-in tx e c live =
+      ap (λ (z : Solo). solo (z .tx) (masterEnd s (z .engine))) (acted-in tx e c) ∙ ap (solo tx) (end-slot (bare e) (c + 1) live)
+
+  shows-in : (tx : List ℕ) (e : Engine) (c : ℕ) → shows s (solo tx (at (c + 1) (bare e))) ≡ masterLines s (bare e)
+  unfolding masterLines
+  shows-in tx e c = ap (λ (z : Solo). masterLines s (z .engine)) (acted-in tx e c)
+
+  goes-from : {ls : List Lines} {x y z : Solo} → x ≡ y → Goes s ls y z → Goes s ls x z
+  goes-from {ls} {z = z} e g = subst (λ (u : Solo). Goes s ls u z) (sym e) g
+
+  pub goes-then : {us vs : List Lines} {x y z : Solo} → Goes s us x y → Goes s vs y z → Goes s (us ++ vs) x z
+  goes-then none h = h
+  goes-then (more a b g) h = more a b (goes-then g h)
+
+  tail : (j c : ℕ) (tx : List ℕ) (e : Engine) → Live e → c + 1 + j ≡ s .half
+      → Goes s (replicate j (masterLines s (bare e))) (solo tx (past (c + 1) (bare e))) (solo tx (onward (bare e)))
+  tail zero c tx e live q = goes-from (ap (solo tx) (pick-no _ _ (le-ltb (c + 1) (s .half) (omega arith)))) none
+  tail (suc j) c tx e live q =
+      goes-from (ap (solo tx) (pick-yes _ _ (lt-ltb (c + 1) (s .half) (omega arith))))
+      (more (shows-in tx e c) (cycle-in tx e c live) (tail j (c + 1) tx e live (omega arith)))
+
+  -- A slot: the state after its event, the lines that it shows, the state at the next slot's beginning.
+  pub record Slot (x : Solo) (l : Lines) (y : Solo) : Type 0 where
+    pub state : Solo
+    pub acts : acted s x ≡ state
+    pub begins : state .engine ≡ at 0 (bare (state .engine))
+    pub lines : masterLines s (state .engine) ≡ l
+    pub live : Live (state .engine)
+    pub ends : solo (state .tx) (onward (bare (state .engine))) ≡ y
+
+  -- slots in a row
+  pub data Draws : List Lines → Solo → Solo → Type 0 where
+    done : {x : Solo} → Draws [] x x
+    draw : {l : Lines} {ls : List Lines} {x y z : Solo} → Slot x l y → Draws ls y z → Draws (l ∷ ls) x z
+
+  pub draws-then : {us vs : List Lines} {x y z : Solo} → Draws us x y → Draws vs y z → Draws (us ++ vs) x z
+  draws-then done h = h
+  draws-then (draw a g) h = draw a (draws-then g h)
+
+  pub draws-end : {ls : List Lines} {x y z : Solo} → Draws ls x y → y ≡ z → Draws ls x z
+  draws-end {ls} {x} d e = subst (λ (u : Solo). Draws ls x u) e d
+
+  pub draws-same : {ls ks : List Lines} {x y : Solo} → Draws ls x y → ls ≡ ks → Draws ks x y
+  draws-same {x = x} {y = y} d e = subst (λ (u : List Lines). Draws u x y) e d
+
+  pub first-cycle : {x y : Solo} {l : Lines} → (k : Slot x l y) → cycle s x ≡ solo (k .state .tx) (past (0 + 1) (bare (k .state .engine)))
+  unfolding cycle
+  first-cycle k =
+      let z = k .state in
+      ap (λ (u : Solo). solo (u .tx) (masterEnd s (u .engine))) (k .acts)
+      ∙ ap (λ (e : Engine). solo (z .tx) (masterEnd s e)) (k .begins)
+      ∙ ap (solo (z .tx)) (end-slot (bare (z .engine)) 0 (k .live))
+
+  state-lines : {x y : Solo} {l : Lines} → (k : Slot x l y) → masterLines s (bare (k .state .engine)) ≡ l
+  unfolding masterLines
+  state-lines k = k .lines
+
+  pub slot-goes : {x y : Solo} {l : Lines} → 0 < s .half → Slot x l y → Goes s (replicate (s .half) l) x y
+  slot-goes {x} {y} {l} h k =
+      let z = k .state in
+      let j = s .half - 1 in
+      let q : suc j ≡ s .half = omega arith in
+      subst (λ (n : ℕ). Goes s (replicate n l) x y) q
+      (more (ap (λ (u : Solo). masterLines s (u .engine)) (k .acts) ∙ k .lines) (first-cycle k)
+      (subst (λ (m : Lines). Goes s (replicate j m) (solo (z .tx) (past (0 + 1) (bare (z .engine)))) y) (state-lines k)
+      (subst (λ (u : Solo). Goes s (replicate j (masterLines s (bare (z .engine)))) (solo (z .tx) (past (0 + 1) (bare (z .engine)))) u) (k .ends)
+      (tail j 0 (z .tx) (z .engine) (k .live) (omega arith)))))
+
+  -- slots drawn are cycles shown
+  pub draws-goes : {ls : List Lines} {x y : Solo} → 0 < s .half → Draws ls x y → Goes s (stretch (s .half) ls) x y
+  draws-goes h done = none
+  draws-goes h (draw k d) = goes-then (slot-goes h k) (draws-goes h d)
+
+-- Slots of a frame -----------------------------------------------------------------------------------------------------
+
+-- slot n of a frame, c bits captured, d on TXD, w being sent
+abbrev pub on : ℕ → ℕ → Bool → ℕ → List ℕ → Solo
+on n c d w tx = solo tx (sending n (shifted c d w 0))
+
+-- what an event leaves in a frame: the slot, the shift registers, and whether a word is taken
+abbrev pub move : ℕ → ℕ → Bool → ℕ → Bool → Step
+move n c d w t = record { engine = sending n (shifted c d w 0); takes = t; complete = false; word = 0 }
+
+-- no frame and no idle slot
+abbrev pub restAt : Shift → Engine
+restAt x = record { slot = slots 0; gone = cycles 0; frame = false; selected = false; mark = false; shift = x }
+
+-- idle slot n
+abbrev pub parkAt : ℕ → Engine
+parkAt n = record { slot = slots n; gone = cycles 0; frame = false; selected = false; mark = false; shift = clearShift }
+
+module _ (s : Settings) where
+  onward-on : (n k c : ℕ) (d : Bool) (w : ℕ) (tx : List ℕ) → n + 1 ≡ k → n < lastSlot s → solo tx (onward s (sending n (shifted c d w 0))) ≡ on k c d w tx
+  unfolding onward
+  onward-on n k c d w tx e l = ap (solo tx) (pick-yes _ _ (lt-ltb n (lastSlot s) l)) ∙ ap (λ (i : ℕ). on i c d w tx) e
+
+  -- an event in a frame after which the frame goes on
+  pub slot-on : (n c : ℕ) (d : Bool) (w : ℕ) (tx : List ℕ) (v : Event) (m c′ : ℕ) (d′ : Bool) (w′ : ℕ) (t : Bool) (l : Lines) (k : ℕ)
+      → eventOf s n ≡ v → bareStep (act s (sending n (shifted c d w 0)) (waits tx) (getD tx 0 0) (dataBit s (sending n (shifted c d w 0)) false) v) ≡ move m c′ d′ w′ t
+      → masterLines s (sending m (shifted c′ d′ w′ 0)) ≡ l → m < lastSlot s → m + 1 ≡ k → Slot s (on n c d w tx) l (on k c′ d′ w′ (pick t (rest tx) tx))
+  unfolding acted moves masterStep acting
+  slot-on n c d w tx v m c′ d′ w′ t l k e a q b z =
+      let x = sending n (shifted c d w 0) in
+      record {
+        state = on m c′ d′ w′ (pick t (rest tx) tx);
+        acts = ap (λ (r : Step). record { tx = pick (r .takes) (rest tx) tx; engine = r .engine })
+            (ap (λ (u : Event). bareStep (act s x (waits tx) (getD tx 0 0) (dataBit s x false) u)) e ∙ a);
+        begins = refl;
+        lines = q;
+        live = refl;
+        ends = onward-on m k c′ d′ w′ (pick t (rest tx) tx) z b;
+      }
+
+  -- an event in the last slot of a frame that has no idle slot
+  pub slot-last : (n c : ℕ) (d : Bool) (w : ℕ) (tx : List ℕ) (v : Event) (c′ : ℕ) (d′ : Bool) (w′ : ℕ) (l : Lines)
+      → eventOf s n ≡ v → bareStep (act s (sending n (shifted c d w 0)) (waits tx) (getD tx 0 0) (dataBit s (sending n (shifted c d w 0)) false) v) ≡ move n c′ d′ w′ false
+      → masterLines s (sending n (shifted c′ d′ w′ 0)) ≡ l → n ≡ lastSlot s → Slot s (on n c d w tx) l (solo tx (restAt clearShift))
+  unfolding acted moves masterStep acting onward
+  slot-last n c d w tx v c′ d′ w′ l e a q b =
+      let x = sending n (shifted c d w 0) in
+      record {
+        state = on n c′ d′ w′ tx;
+        acts = ap (λ (r : Step). record { tx = pick (r .takes) (rest tx) tx; engine = r .engine })
+            (ap (λ (u : Event). bareStep (act s x (waits tx) (getD tx 0 0) (dataBit s x false) u)) e ∙ a);
+        begins = refl;
+        lines = q;
+        live = refl;
+        ends = ap (solo tx) (pick-no _ _ (le-ltb n (lastSlot s) (omega arith)));
+      }
+
+  -- an idle master with a waiting word starts slot 0
+  pub slot-start : (x : Shift) (w : ℕ) (tx : List ℕ) (v : Event) (d′ : Bool) (l : Lines)
+      → eventOf s 0 ≡ v → bareStep (act s (restAt x) true w (dataBit s (restAt x) false) v) ≡ move 0 0 d′ w true
+      → masterLines s (sending 0 (shifted 0 d′ w 0)) ≡ l → 0 < lastSlot s → Slot s (solo (w ∷ tx) (restAt x)) l (on 1 0 d′ w tx)
+  unfolding acted moves masterStep acting resting
+  slot-start x w tx v d′ l e a q b =
+      record {
+        state = on 0 0 d′ w tx;
+        acts = ap (λ (t : Bool). record { tx = pick (bareStep (pick t (act s (restAt x) t w (dataBit s (restAt x) false) (eventOf s 0)) (still (restAt x))) .takes) tx (w ∷ tx); engine = bareStep (pick t (act s (restAt x) t w (dataBit s (restAt x) false) (eventOf s 0)) (still (restAt x))) .engine }) (waits-cons w tx)
+            ∙ ap (λ (r : Step). record { tx = pick (r .takes) tx (w ∷ tx); engine = r .engine })
+            (ap (λ (u : Event). bareStep (act s (restAt x) true w (dataBit s (restAt x) false) u)) e ∙ a);
+        begins = refl;
+        lines = q;
+        live = refl;
+        ends = onward-on 0 1 0 d′ w tx refl b;
+      }
+
+  -- the frame is over
+  pub slot-release : (n c : ℕ) (d : Bool) (w : ℕ) (tx : List ℕ) (k : ℕ) → eventOf s n ≡ Release → 0 < n → n < lastSlot s → n + 1 ≡ k → Slot s (on n c d w tx) (idle s) (solo tx (parkAt k))
+  unfolding acted moves masterStep acting masterLines onward
+  slot-release n c d w tx k e p b z =
+      let x = sending n (shifted c d w 0) in
+      record {
+        state = solo tx (parkAt n);
+        acts = ap (λ (r : Step). record { tx = pick (r .takes) (rest tx) tx; engine = r .engine })
+            (ap (λ (u : Event). bareStep (act s x (waits tx) (getD tx 0 0) (dataBit s x false) u)) e);
+        begins = refl;
+        lines = refl;
+        live = ne-eqb n 0 (omega arith);
+        ends = ap (solo tx) (pick-yes _ _ (lt-ltb n (lastSlot s) b)) ∙ ap (λ (i : ℕ). solo tx (parkAt i)) z;
+      }
+
+  -- the last idle slot
+  pub slot-pause : (n : ℕ) (tx : List ℕ) → 0 < n → n ≡ lastSlot s → Slot s (solo tx (parkAt n)) (idle s) (solo tx (restAt clearShift))
+  unfolding acted moves masterStep acting resting masterLines onward
+  slot-pause n tx p e =
+      record {
+        state = solo tx (parkAt n);
+        acts = rw (ne-eqb n 0 (omega arith));
+        begins = refl;
+        lines = refl;
+        live = ne-eqb n 0 (omega arith);
+        ends = ap (solo tx) (pick-no _ _ (le-ltb n (lastSlot s) (omega arith)));
+      }
+
+  -- a capture
+  pub capture-move : (b : ℕ) (bit : Bool) (n c : ℕ) (d : Bool) (w : ℕ) → c < b → bareStep (captureStep b bit (sending n (shifted c d w 0))) ≡ move n (c + 1) d w false
+  unfolding captureStep capturedOf
+  capture-move b bit n c d w l = rw (lt-ltb c b l)
+
+  -- bits of a word, two slots each
+  module _ (f g : Bool → Lines) (t w hi : ℕ) (st mid : ℕ → Bool → Solo) where
+    abbrev Firsts : Type 0
+    Firsts = (c : ℕ) (d : Bool) → 0 < c → c < hi → Slot s (st c d) (f (bitOf t w c)) (mid c (bitOf t w c))
+
+    abbrev Seconds : Type 0
+    Seconds = (c : ℕ) → c < hi → Slot s (mid c (bitOf t w c)) (g (bitOf t w c)) (st (c + 1) (bitOf t w c))
+
+    -- from bit c to bit e
+    bits-run : Firsts → Seconds → (j c e : ℕ) (d : Bool) → c + j ≡ e → 0 < c → e < hi → Draws s (bitLines f g t w c (suc j)) (st c d) (st (e + 1) (bitOf t w e))
+    bits-run p q zero c e d z l m =
+        let r : c ≡ e = omega arith in
+        draws-end s (draw (p c d l (omega arith)) (draw (q c (omega arith)) done)) (ap (λ (i : ℕ). st (i + 1) (bitOf t w i)) r)
+    bits-run p q (suc j) c e d z l m =
+        draw (p c d l (omega arith)) (draw (q c (omega arith)) (bits-run p q j (c + 1) e (bitOf t w c) (omega arith) (omega arith) m))
+
+    -- the first n bits, however the first comes on TXD
+    pub word-run : Firsts → Seconds → (x : Solo) (n : ℕ) → 1 < n → n ≤ hi → Slot s x (f (bitOf t w 0)) (mid 0 (bitOf t w 0)) → Draws s (bitLines f g t w 0 n) x (st n (bitOf t w (n - 1)))
+    word-run p q x n l m k =
+        let a : suc (suc (n - 2)) ≡ n = omega arith in
+        let r : n - 1 + 1 ≡ n = omega arith in
+        draws-end s
+        (draws-same s
+        (draw k (draw (q 0 (omega arith)) (bits-run p q (n - 2) 1 (n - 1) (bitOf t w 0) (omega arith) (omega arith) (omega arith))))
+        (ap (bitLines f g t w 0) a))
+        (ap (λ (i : ℕ). st i (bitOf t w (n - 1))) r)
+
+-- The end of a load --------------------------------------------------------------------------------------------------------
+
+module _ (s : Settings) where
+  -- the slot in which the last frame is over, the first of two idle ones
+  pub data Over : List Lines → Solo → Type 0 where
+    over : (n c : ℕ) (d : Bool) (w : ℕ) → eventOf s n ≡ Release → 0 < n → n + 1 ≡ lastSlot s → Over (idle s ∷ idle s ∷ []) (on n c d w [])
+
+  -- a last slot that is in the frame to its end
+  pub data Last : List Lines → Solo → Type 0 where
+    last : {l : Lines} (n c : ℕ) (d : Bool) (w : ℕ) → l .released ≡ false → Slot s (on n c d w []) l (solo [] (restAt clearShift)) → Last (l ∷ []) (on n c d w [])
+
+  pub over-draws : (ls : List Lines) (x : Solo) → Over ls x → Draws s ls x (solo [] (restAt clearShift))
+  over-draws ls x (over n c d w e p q) = draw (slot-release s n c d w [] (n + 1) e p (omega (arith, q)) refl) (draw (slot-pause s (n + 1) [] (omega arith) q) done)
+
+  pub last-draws : (ls : List Lines) (x : Solo) → Last ls x → Draws s ls x (solo [] (restAt clearShift))
+  last-draws ls x (last n c d w r k) = draw k done
+
+  -- slots from x to an end: all of a drawing but what is left there
+  pub record Until (End : List Lines → Solo → Type 0) (all : List Lines) (x : Solo) : Type 0 where
+    pub drawn : List Lines
+    pub left : List Lines
+    pub there : Solo
+    pub whole : drawn ++ left ≡ all
+    pub draws : Draws s drawn x there
+    pub ends : End left there
+
+module _ {s : Settings} {End : List Lines → Solo → Type 0} where
+  pub until-done : {all : List Lines} {x : Solo} → End all x → Until s End all x
+  until-done {all} {x} e = record { drawn = []; left = all; there = x; whole = refl; draws = done; ends = e }
+
+  pub until-draw : {l : Lines} {all : List Lines} {x y : Solo} → Slot s x l y → Until s End all y → Until s End (l ∷ all) x
+  until-draw {l} k u =
+      record { drawn = l ∷ u .drawn; left = u .left; there = u .there; whole = ap (λ (ls : List Lines). l ∷ ls) (u .whole); draws = draw k (u .draws); ends = u .ends }
+
+  pub until-then : {ls all : List Lines} {x y : Solo} → Draws s ls x y → Until s End all y → Until s End (ls ++ all) x
+  until-then done u = u
+  until-then (draw k d) u = until-draw k (until-then d u)
+
+  pub until-draws : {all : List Lines} {x z : Solo} → ((ls : List Lines) (y : Solo) → End ls y → Draws s ls y z) → Until s End all x → Draws s all x z
+  until-draws f u = draws-same s (draws-then s (u .draws) (f (u .left) (u .there) (u .ends))) (u .whole)

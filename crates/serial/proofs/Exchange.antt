@@ -1,0 +1,18 @@
+-- A wired master and slave exchange their words: demand 3's first part. Claim is the end, Settle the middle.
+pub mod Trace
+pub mod Top
+pub mod Core
+pub mod Settle
+pub mod Quiet
+pub mod Events
+pub mod Moves
+pub mod Motorola
+pub mod Ends
+pub mod Phase0
+pub mod Phase1
+pub mod Ti
+pub mod Finish
+pub mod Project
+pub mod Lead
+pub mod Enable
+pub mod Claim

@@ -1,0 +1,393 @@
+-- The proof of demand 3's first part, put together.
+use Prim.Native.Nat.{ℕ, zero, suc, _+_, _*_, _≤_, _<_}
+use mathlib.Core.Path.{_≡_, refl, sym, ap, ap₂, _∙_, subst}
+use mathlib.Core.Bool.{Bool, true, false, not, _&&_, _||_}
+use mathlib.Core.List.{List, [], _∷_, _++_, map, append-assoc, append-nil}
+use mathlib.Core.Logic.{_⊎_, inl, inr}
+use native.Mathlib.Omega.{arith}
+use native.Mathlib.Nat.{add-mul, le-refl}
+use lib.Dec.{ltb, eqb}
+use lib.ListN.{length, take, replicate}
+use Rattle.registers.specs.Flags.{busyOf}
+use Rattle.registers.specs.Settings.{settingsOf, enabledOf, permittedOf, bitsOf}
+use Rattle.registers.proofs.Soundness.{sound-told, bits-least, bits-most}
+use Rattle.registers.specs.Access.{writeModel}
+use Rattle.registers.specs.Transfer.{waitingOf, nextWord}
+use Rattle.registers.specs.declared.Control.{Control}
+use Rattle.registers.specs.declared.settings.Format.{Format}
+use Rattle.registers.specs.declared.settings.Format.the-variants.{Motorola, Ti, Microwire, Reserved}
+use Rattle.registers.specs.declared.settings.Settings.{Settings}
+use Rattle.serial.specs.Engine.{cleared, still}
+use Rattle.serial.specs.Lines.{idleOn, linesOf, masterLines, slaveLines, differ}
+use Rattle.serial.specs.Slave.{slaveStep, motorolaSlave, tiSlave}
+use Rattle.serial.specs.Cycle.{DeviceModel, deviceStep, stepOf}
+use Rattle.serial.specs.Busy.{busyDevice}
+use Rattle.serial.proofs.Cycles.{control-cycle, step-stopped}
+use Rattle.serial.specs.Access.{writeDevice}
+use Rattle.serial.proofs.Soundness.{sound-registers}
+use Rattle.serial.specs.Drawing.{slotTotal}
+use Rattle.serial.specs.Pair.{wire, PairModel, pairCycle, later}
+use Rattle.serial.proofs.Exchange.Trace.{iterate}
+use Rattle.serial.specs.Bits.{cut}
+use Rattle.serial.proofs.Exchange.Core as Core
+use Rattle.serial.proofs.Exchange.Core.{Receiver, Side, Pair, plain, coreCycle}
+use Rattle.serial.proofs.Exchange.Settle.{rested, Lawful}
+use Rattle.serial.proofs.Exchange.Quiet.{lawful-motorola, lawful-ti}
+use Rattle.serial.proofs.Exchange.Moves.{hidden}
+use Rattle.serial.proofs.Exchange.Ends.{front, holding, starts, answers, Exchange}
+use Rattle.serial.proofs.Exchange.Phase0 as phase0
+use Rattle.serial.proofs.Exchange.Phase1 as phase1
+use Rattle.serial.proofs.Exchange.Ti as ti-words
+use Rattle.serial.proofs.Exchange.Finish.{kept, busyCycles, stays-busy, gets-free, has-received}
+use Rattle.serial.proofs.Exchange.Project.{Serial, given, turns, turnPins, turnLines, sideOf, coreOf, rxOf, Paired, commutes}
+use Rattle.serial.proofs.Exchange.Project.Serial.{motorola, ti}
+use Rattle.serial.proofs.Exchange.Lead.{Lead, lead-steps, lead-write₁, lead-write₂, engine-on}
+use Rattle.serial.proofs.Exchange.Enable.{switchedOn, settings-on, control-on}
+use Rattle.serial.specs.Demand3.{Which, Step, play, plays, cyclesIn, controlOf, Stays, enables, Start, busy, completed, received, load, held, due, busyFor, Received, Exchanged, slaveOn, masterOn, Demand3}
+use Rattle.serial.specs.Demand3.Which.{master, slave}
+use Rattle.serial.specs.declared.engine.Engine.{Engine}
+use Rattle.serial.specs.declared.lines.Lines.{Lines}
+use Rattle.serial.specs.declared.lines.Pins.{Pins}
+
+-- Many cycles, projected -----------------------------------------------------------------------------------------------
+
+paired-next : {f : Format} {phase p : Bool} {b h k : ℕ} {o : Bool} (g : PairModel) → Paired f phase p b h k o g → Paired f phase p b h k o (pairCycle g)
+unfolding pairCycle
+paired-next g P =
+    record {
+      serial = P .serial;
+      master = ap settingsOf (control-cycle (g .first) (wire (g .second .lines))) ∙ P .master;
+      slave = ap settingsOf (control-cycle (g .second) (wire (g .first .lines))) ∙ P .slave;
+    }
+
+projected : {f : Format} {phase p : Bool} {b h k : ℕ} {o : Bool} (n : ℕ) (g : PairModel) (l j : List ℕ) → Paired f phase p b h k o g
+    → coreOf (turns f p) (l ++ received master n g) (j ++ received slave n g) (later n g) ≡ iterate n (coreCycle (plain f phase b h false) (plain f phase b h true)) (coreOf (turns f p) l j g)
+projected {f = f} {p = p} zero g l j P = ap₂ (λ (x y : List ℕ). coreOf (turns f p) x y g) (append-nil l) (append-nil j)
+projected {f = f} {phase = phase} {p = p} {b = b} {h = h} (suc n) g l j P =
+    ap₂ (λ (x y : List ℕ). coreOf (turns f p) x y (later n (pairCycle g))) (sym (append-assoc l (completed master g) (received master n (pairCycle g)))) (sym (append-assoc j (completed slave g) (received slave n (pairCycle g))))
+    ∙ projected n (pairCycle g) (l ++ completed master g) (j ++ completed slave g) (paired-next g P)
+    ∙ ap (iterate n (coreCycle (plain f phase b h false) (plain f phase b h true))) (commutes g P l j)
+
+-- The format -----------------------------------------------------------------------------------------------------------
+
+-- the idle lines of the exchange: the clock as if SPO were 0
+abbrev restLines : Format → Lines
+restLines f = idleOn f false
+
+abbrev slotsOf : Format → Bool → ℕ → ℕ → ℕ
+slotsOf Motorola false b n = n * (2 * b + 4) + (2 * b + 2)
+slotsOf Motorola true b n = 2 * b * suc n + 2
+slotsOf Ti phase b n = 2 * b * suc n + 2
+slotsOf Microwire phase b n = 0
+slotsOf Reserved phase b n = 0
+
+abbrev quitsOf : Format → ℕ
+quitsOf Motorola = 1
+quitsOf Ti = 0
+quitsOf Microwire = 0
+quitsOf Reserved = 0
+
+exchange-of : {f : Format} → Serial f → (phase : Bool) (b h : ℕ) → 4 ≤ b → b ≤ 16 → 6 ≤ h → Exchange (plain f phase b h false) (plain f phase b h true) b (restLines f) (slotsOf f phase b) (quitsOf f)
+exchange-of motorola false b h l m k = phase0.exchange b h (omega arith) m k
+exchange-of motorola true b h l m k = phase1.exchange b h (omega arith) m k
+exchange-of ti phase b h l m k = ti-words.exchange phase b h (omega arith) m
+
+lawful-of : {f : Format} → Serial f → (phase : Bool) (b h : ℕ) → Lawful (plain f phase b h true)
+lawful-of motorola phase b h = lawful-motorola phase b h
+lawful-of ti phase b h = lawful-ti phase b h
+
+-- as many words as the master sends, zeros where the slave has none
+answers-due : (ws vs : List ℕ) → answers ws vs ≡ take (length ws) (vs ++ replicate (length ws) 0)
+answers-due ws vs = go ws (length ws) vs (omega arith)
+  where
+    go : (ws : List ℕ) (k : ℕ) (vs : List ℕ) → length ws ≤ k → answers ws vs ≡ take (length ws) (vs ++ replicate k 0)
+    go [] k vs l = refl
+    go (w ∷ ws) zero vs l = absurd (omega arith)
+    go (w ∷ ws) (suc k) [] l = ap (λ (t : List ℕ). 0 ∷ t) (go ws k [] (omega arith))
+    go (w ∷ ws) (suc k) (v ∷ vs) l = ap (λ (t : List ℕ). v ∷ t) (go ws (suc k) vs (omega arith))
+
+figure-of : {f : Format} → Serial f → (phase : Bool) (b h : ℕ) (X : Exchange (plain f phase b h false) (plain f phase b h true) b (restLines f) (slotsOf f phase b) (quitsOf f)) (L : Lawful (plain f phase b h true)) (k : 6 ≤ h) (ws : List ℕ)
+    → busyCycles X L k ws ≡ busyFor f phase b h (length ws)
+figure-of motorola false b h X L k [] = refl
+figure-of motorola true b h X L k [] = refl
+figure-of ti phase b h X L k [] = refl
+figure-of motorola false b h X L k (w ∷ ws) = refl
+figure-of motorola true b h X L k (w ∷ ws) = refl
+figure-of ti phase b h X L k (w ∷ ws) = omega arith
+
+more-slots : (n h : ℕ) → 6 ≤ h → n * h + 1 ≤ (n + 2) * h
+more-slots n h k = let e : (n + 2) * h ≡ n * h + 2 * h = add-mul n 2 h in omega arith
+
+figure-bound : {f : Format} → Serial f → (phase p : Bool) (b h : ℕ) (o : Bool) (n : ℕ) → 6 ≤ h → busyFor f phase b h n ≤ slotTotal (given f phase p b h false o) n * h
+unfolding slotTotal
+figure-bound motorola false p b h o zero k = omega arith
+figure-bound motorola true p b h o zero k = omega arith
+figure-bound ti phase p b h o zero k = omega arith
+figure-bound motorola false p b h o (suc n) k =
+    let e : suc n * (2 * b + 4) ≡ n * (2 * b + 4) + (2 * b + 2) + 2 = omega arith in
+    subst (λ (z : ℕ). (n * (2 * b + 4) + (2 * b + 2)) * h + 1 ≤ z * h) (sym e) (more-slots (n * (2 * b + 4) + (2 * b + 2)) h k)
+figure-bound motorola true p b h o (suc n) k =
+    let e : 2 * b * suc n + 4 ≡ 2 * b * suc n + 2 + 2 = omega arith in
+    subst (λ (z : ℕ). (2 * b * suc n + 2) * h + 1 ≤ z * h) (sym e) (more-slots (2 * b * suc n + 2) h k)
+figure-bound ti phase p b h o (suc n) k = le-refl _
+
+-- The state at the master's enabling -----------------------------------------------------------------------------------
+
+differ-same : (p : Bool) → differ p p ≡ false
+differ-same true = refl
+differ-same false = refl
+
+rest-turned : {f : Format} → Serial f → (p : Bool) → turnLines (turns f p) (idleOn f p) ≡ restLines f
+rest-turned motorola p = ap (λ (c : Bool). record { clk = c; fss = true; txd = false; released = true }) (differ-same p)
+rest-turned ti p = refl
+
+wire-turned : {f : Format} → Serial f → (p : Bool) → turnPins (turns f p) (wire (idleOn f p)) ≡ wire (restLines f)
+unfolding wire
+wire-turned motorola p = ap (λ (c : Bool). record { clk = c; fss = true; rxd = false }) (differ-same p)
+wire-turned ti p = refl
+
+module _ {f : Format} (S : Serial f) (phase p : Bool) (b h k : ℕ) (o : Bool) (c₁ c₂ : Control) (n : ℕ) (g : PairModel) (P : Paired f phase p b h k o g)
+    (L : Lead (idleOn f p) hidden c₁ c₂ n g) (four : 4 ≤ n) (least : 4 ≤ b) (most : b ≤ 16) (slow : 6 ≤ h) where
+  abbrev q₁ : Receiver
+  q₁ = rxOf (g .first .registers) []
+
+  abbrev q₂ : Receiver
+  q₂ = rxOf (g .second .registers) []
+
+  core-start : coreOf (turns f p) [] [] g ≡ rested (starts (restLines f) (holding (load master g) (rxOf (g .first .registers) []) (load slave g) (rxOf (g .second .registers) [])))
+  core-start =
+      let e₁ = L .engine₁ (omega arith) in
+      let e₂ = L .engine₂ (omega arith) in
+      let l₁ = ap (turnLines (turns f p)) (L .lines₁ (omega arith)) ∙ rest-turned S p in
+      let l₂ = ap (turnLines false) (L .lines₂ (omega arith)) in
+      let x = ap (turnPins (turns f p)) (L .newest (omega arith)) ∙ wire-turned S p in
+      let y = ap (turnPins (turns f p)) (L .middle (omega arith)) ∙ wire-turned S p in
+      let z = ap (turnPins (turns f p)) (L .oldest (omega arith)) ∙ wire-turned S p in
+      λ t. record {
+        m = record { tx = load master g; rx = rxOf (g .first .registers) []; engine = e₁ t; lines = l₁ t };
+        s = record { tx = load slave g; rx = rxOf (g .second .registers) []; engine = e₂ t; lines = l₂ t };
+        h = record { newest = x t; middle = y t; oldest = z t };
+      }
+
+  abbrev X : Exchange (plain f phase b h false) (plain f phase b h true) b (restLines f) (slotsOf f phase b) (quitsOf f)
+  X = exchange-of S phase b h least most slow
+
+  abbrev W : Lawful (plain f phase b h true)
+  W = lawful-of S phase b h
+
+  abbrev start : Pair
+  start = rested (starts (restLines f) (holding (load master g) (rxOf (g .first .registers) []) (load slave g) (rxOf (g .second .registers) [])))
+
+  run-of : (i : ℕ) → coreOf (turns f p) (received master i g) (received slave i g) (later i g) ≡ iterate i (coreCycle (plain f phase b h false) (plain f phase b h true)) start
+  run-of i = projected i g [] [] P ∙ ap (iterate i (coreCycle (plain f phase b h false) (plain f phase b h true))) core-start
+
+  abbrev until : ℕ
+  until = busyCycles X W slow (load master g)
+
+  busy-of : (i : ℕ) (t : Bool) → Core.busy (iterate i (coreCycle (plain f phase b h false) (plain f phase b h true)) start .m) ≡ t → busy master (later i g) ≡ t
+  unfolding busyOf busyDevice
+  busy-of i t e = ap (λ (c : Pair). Core.busy (c .m)) (run-of i) ∙ e
+
+  held-small₁ : length (held master g) ≤ 8
+  held-small₁ = sound-told (g .first .registers) (sound-registers (g .first) (L .sound₁)) .rx
+
+  held-small₂ : length (held slave g) ≤ 8
+  held-small₂ = sound-told (g .second .registers) (sound-registers (g .second) (L .sound₂)) .rx
+
+  master-gets : (j : ℕ) → Received b (until + j) master g
+  master-gets j =
+      let r = ap (λ (c : Pair). c .m .rx) (run-of (until + j)) ∙ has-received X W slow (load master g) q₁ (load slave g) q₂ j held-small₁ held-small₂ .0 in
+      let d = ap (map (cut b)) (answers-due (load master g) (load slave g)) in
+      record {
+        words = ap (λ (x : Receiver). x .log) r ∙ d;
+        queue = ap (λ (x : Receiver). x .held) r ∙ ap (λ (x : List ℕ). take 8 (held master g ++ x)) d;
+        overrun = ap (λ (x : Receiver). x .ror) r ∙ ap₂ (λ (t : Bool) (x : List ℕ). t || ltb 8 (length (held master g ++ x))) (L .ror₁) d;
+      }
+
+  slave-gets : (j : ℕ) → Received b (until + j) slave g
+  slave-gets j =
+      let r = ap (λ (c : Pair). c .s .rx) (run-of (until + j)) ∙ has-received X W slow (load master g) q₁ (load slave g) q₂ j held-small₁ held-small₂ .1 in
+      record {
+        words = ap (λ (x : Receiver). x .log) r;
+        queue = ap (λ (x : Receiver). x .held) r;
+        overrun = ap (λ (x : Receiver). x .ror) r ∙ ap (λ (t : Bool). t || ltb 8 (length (held slave g ++ map (cut b) (load master g)))) (L .ror₂);
+      }
+
+  pub exchanged-at : Exchanged g
+  exchanged-at =
+      let e = figure-of S phase b h X W slow (load master g) in
+      record {
+        at = until;
+        figure = e ∙ ap (λ (s : Settings). busyFor (s .format) (s .phase) (s .bits) (s .half) (length (load master g))) (sym (P .master));
+        bound = subst (λ (s : Settings). until ≤ slotTotal s (length (load master g)) * s .half) (sym (P .master))
+            (subst (λ (x : ℕ). x ≤ slotTotal (given f phase p b h false o) (length (load master g)) * h) (sym e) (figure-bound S phase p b h o (length (load master g)) slow));
+        busy-before = λ i l. busy-of i true (stays-busy X W slow (load master g) q₁ (load slave g) q₂ i l);
+        free = busy-of until false (gets-free X W slow (load master g) q₁ (load slave g) q₂);
+        master-received = λ j. subst (λ (s : Settings). Received (s .bits) (until + j) master g) (sym (P .master)) (master-gets j);
+        slave-received = λ j. subst (λ (s : Settings). Received (s .bits) (until + j) slave g) (sym (P .master)) (slave-gets j);
+      }
+
+-- The way there --------------------------------------------------------------------------------------------------------
+
+-- a still slave: enabled, clear, and all that it sees is the master's idle lines
+quiet-slave : {f : Format} → Serial f → (phase p : Bool) (b k n : ℕ) → slaveStep (given f phase p b k true false) cleared (wire (idleOn f p)) (wire (idleOn f p)) n ≡ still cleared
+unfolding slaveStep motorolaSlave tiSlave wire
+quiet-slave motorola phase p b k n = refl
+quiet-slave ti phase p b k n = refl
+
+-- settings with everything named, enabled or not
+abbrev named : Format → Bool → Bool → ℕ → ℕ → Bool → Bool → Bool → Settings
+named f phase p b h role o on = record { format = f; phase = phase; polarity = p; bits = b; half = h; slave = role; silent = o; loopback = false; enabled = on }
+
+idle-master : (f : Format) (phase p : Bool) (b h : ℕ) (o on : Bool) → linesOf (named f phase p b h false o on) cleared ≡ idleOn f p
+unfolding linesOf masterLines
+idle-master f phase p b h o on = refl
+
+idle-slave : {f : Format} → Serial f → (phase p : Bool) (b h : ℕ) (on : Bool) → linesOf (named f phase p b h true false on) cleared ≡ hidden
+unfolding linesOf slaveLines
+idle-slave motorola phase p b h on = refl
+idle-slave ti phase p b h on = refl
+
+serial-of : (f : Format) → (f ≡ Motorola) ⊎ (f ≡ Ti) → Serial f
+serial-of f (inl e) = subst Serial (sym e) motorola
+serial-of f (inr e) = subst Serial (sym e) ti
+
+enabled-is : (c : Control) → settingsOf c .enabled ≡ enabledOf c
+unfolding settingsOf
+enabled-is c = refl
+
+bits-are : (c : Control) → settingsOf c .bits ≡ bitsOf (c .cr0)
+unfolding settingsOf
+bits-are c = refl
+
+control-written : (d : DeviceModel) (o v : ℕ) → writeDevice d o v .registers .control ≡ writeModel (d .registers) o v .control
+unfolding writeDevice
+control-written d o v = refl
+
+slave-still : {f : Format} → Serial f → (phase p : Bool) (b k : ℕ) (d : DeviceModel) (x : Pins) → settingsOf (d .registers .control) ≡ given f phase p b k true false → d .engine ≡ cleared
+    → d .pins .oldest ≡ wire (idleOn f p) → d .pins .middle ≡ wire (idleOn f p) → deviceStep d x ≡ still cleared
+unfolding deviceStep stepOf
+slave-still {f = f} S phase p b k d x s e u v =
+    ap₂ (λ (s : Settings) (e : Engine). stepOf s e (d .pins) x (waitingOf (d .registers)) (nextWord (d .registers))) s e
+    ∙ ap₂ (λ (u v : Pins). slaveStep (given f phase p b k true false) cleared u v (nextWord (d .registers))) u v
+    ∙ quiet-slave S phase p b k (nextWord (d .registers))
+
+-- the control registers after a device's enabling
+control-after : (d : DeviceModel) (c : Control) → d .registers .control ≡ c → c .cr1 ≤ 15 → enabledOf c ≡ false → permittedOf (c .cr0) ≡ true → (c .cpsr ≡ 0 → ⊥)
+    → writeDevice d 0x04 (d .registers .control .cr1 + 2) .registers .control ≡ switchedOn c
+control-after d c e small off good divided =
+    control-written d 0x04 (d .registers .control .cr1 + 2)
+    ∙ control-on (d .registers) (subst (λ (z : Control). z .cr1 ≤ 15) (sym e) small) (ap enabledOf e ∙ off) (ap (λ (z : Control). permittedOf (z .cr0)) e ∙ good) (λ w. divided (sym (ap (λ (z : Control). z .cpsr) e) ∙ w))
+    ∙ ap switchedOn e
+
+module _ (p : PairModel) (st : Start p) where
+  abbrev c₁ : Control
+  c₁ = controlOf master p
+
+  abbrev c₂ : Control
+  c₂ = controlOf slave p
+
+  abbrev s₁ : Settings
+  s₁ = settingsOf (controlOf master p)
+
+  abbrev k₂ : ℕ
+  k₂ = settingsOf (controlOf slave p) .half
+
+  serial-here : Serial (settingsOf (controlOf master p) .format)
+  serial-here = serial-of _ (st .serial)
+
+  off₁ : enabledOf (controlOf master p) ≡ false
+  off₁ = sym (enabled-is (controlOf master p)) ∙ st .off-master
+
+  off₂ : enabledOf (controlOf slave p) ≡ false
+  off₂ = sym (enabled-is (controlOf slave p)) ∙ st .off-slave
+
+  small₁ : controlOf master p .cr1 ≤ 15
+  small₁ = sound-told (p .first .registers) (sound-registers (p .first) (st .sound-master)) .control .cr1
+
+  small₂ : controlOf slave p .cr1 ≤ 15
+  small₂ = sound-told (p .second .registers) (sound-registers (p .second) (st .sound-slave)) .control .cr1
+
+  -- the settings of both, off and on
+  set₁ : settingsOf (controlOf master p) ≡ named (s₁ .format) (s₁ .phase) (s₁ .polarity) (s₁ .bits) (s₁ .half) false (s₁ .silent) false
+  set₁ = λ t. record { format = s₁ .format; phase = s₁ .phase; polarity = s₁ .polarity; bits = s₁ .bits; half = s₁ .half; slave = st .is-master t; silent = s₁ .silent; loopback = st .straight-master t; enabled = st .off-master t }
+
+  set₂ : settingsOf (controlOf slave p) ≡ named (s₁ .format) (s₁ .phase) (s₁ .polarity) (s₁ .bits) k₂ true false false
+  set₂ = λ t. record { format = st .format t; phase = st .phase t; polarity = st .polarity t; bits = st .size t; half = k₂; slave = st .is-slave t; silent = st .output t; loopback = st .straight-slave t; enabled = st .off-slave t }
+
+  on₁ : settingsOf (switchedOn (controlOf master p)) ≡ given (s₁ .format) (s₁ .phase) (s₁ .polarity) (s₁ .bits) (s₁ .half) false (s₁ .silent)
+  on₁ = settings-on (controlOf master p) small₁ off₁
+      ∙ (λ t. record { format = s₁ .format; phase = s₁ .phase; polarity = s₁ .polarity; bits = s₁ .bits; half = s₁ .half; slave = st .is-master t; silent = s₁ .silent; loopback = st .straight-master t; enabled = true })
+
+  on₂ : settingsOf (switchedOn (controlOf slave p)) ≡ given (s₁ .format) (s₁ .phase) (s₁ .polarity) (s₁ .bits) k₂ true false
+  on₂ = settings-on (controlOf slave p) small₂ off₂
+      ∙ (λ t. record { format = st .format t; phase = st .phase t; polarity = st .polarity t; bits = st .size t; half = k₂; slave = st .is-slave t; silent = st .output t; loopback = st .straight-slave t; enabled = true })
+
+  abbrev i : Lines
+  i = idleOn (settingsOf (controlOf master p) .format) (settingsOf (controlOf master p) .polarity)
+
+  idle₁ : linesOf (settingsOf (controlOf master p)) cleared ≡ i
+  idle₁ = ap (λ (s : Settings). linesOf s cleared) set₁ ∙ idle-master _ _ _ _ _ _ _
+
+  idle₂ : linesOf (settingsOf (controlOf slave p)) cleared ≡ hidden
+  idle₂ = ap (λ (s : Settings). linesOf s cleared) set₂ ∙ idle-slave serial-here _ _ _ _ _
+
+  idle-on₂ : linesOf (settingsOf (switchedOn (controlOf slave p))) cleared ≡ hidden
+  idle-on₂ = ap (λ (s : Settings). linesOf s cleared) on₂ ∙ idle-slave serial-here _ _ _ _ _
+
+  lead-start : Lead i hidden (controlOf master p) (controlOf slave p) 0 p
+  lead-start =
+      record {
+        control₁ = refl;
+        control₂ = refl;
+        sound₁ = st .sound-master;
+        sound₂ = st .sound-slave;
+        ror₁ = st .clear-master;
+        ror₂ = st .clear-slave;
+        engine₁ = λ l. absurd (omega arith);
+        engine₂ = λ l. absurd (omega arith);
+        lines₁ = λ l. absurd (omega arith);
+        lines₂ = λ l. absurd (omega arith);
+        newest = λ l. absurd (omega arith);
+        middle = λ l. absurd (omega arith);
+        oldest = λ l. absurd (omega arith);
+      }
+
+  -- both off
+  lead-pre : (pre : List Step) → Stays pre p → Lead i hidden (controlOf master p) (controlOf slave p) (cyclesIn pre) (plays pre p)
+  lead-pre pre z =
+      lead-steps idle₁ idle₂ off₁ 0 (λ n g l c. step-stopped (g .second) (wire (g .first .lines)) (ap enabledOf (c .control₂) ∙ off₂)) pre 0 (cyclesIn pre) p (omega arith) (omega arith) z lead-start
+
+  -- the slave on
+  lead-slave : (pre : List Step) → Stays pre p → Lead i hidden (controlOf master p) (switchedOn (controlOf slave p)) (cyclesIn pre) (slaveOn pre p)
+  lead-slave pre z =
+      let l = lead-pre pre z in
+      let g = plays pre p in
+      lead-write₂ (switchedOn (controlOf slave p)) (cyclesIn pre) g 0x04 (g .second .registers .control .cr1 + 2) l
+      (control-after (g .second) (controlOf slave p) (l .control₂) small₂ off₂ (st .permitted-slave) (st .divided-slave))
+      (engine-on (g .second) 0x04 _ (ap enabledOf (l .control₂) ∙ off₂))
+
+  lead-mid : (pre mid : List Step) → 4 ≤ cyclesIn pre → Stays pre p → Stays mid (slaveOn pre p) → Lead i hidden (controlOf master p) (switchedOn (controlOf slave p)) (cyclesIn pre + cyclesIn mid) (plays mid (slaveOn pre p))
+  lead-mid pre mid four z z′ =
+      lead-steps idle₁ idle-on₂ off₁ 4
+      (λ n g l c. slave-still serial-here (s₁ .phase) (s₁ .polarity) (s₁ .bits) k₂ (g .second) (wire (g .first .lines)) (ap settingsOf (c .control₂) ∙ on₂) (c .engine₂ (omega arith)) (c .oldest l) (c .middle (omega arith)))
+      mid (cyclesIn pre) (cyclesIn pre + cyclesIn mid) (slaveOn pre p) refl four z′ (lead-slave pre z)
+
+  -- the master on
+  lead-master : (pre mid : List Step) → 4 ≤ cyclesIn pre → Stays pre p → Stays mid (slaveOn pre p)
+      → Lead i hidden (switchedOn (controlOf master p)) (switchedOn (controlOf slave p)) (cyclesIn pre + cyclesIn mid) (masterOn pre mid p)
+  lead-master pre mid four z z′ =
+      let l = lead-mid pre mid four z z′ in
+      let g = plays mid (slaveOn pre p) in
+      lead-write₁ (switchedOn (controlOf master p)) (cyclesIn pre + cyclesIn mid) g 0x04 (g .first .registers .control .cr1 + 2) l
+      (control-after (g .first) (controlOf master p) (l .control₁) small₁ off₁ (st .permitted-master) (st .divided-master))
+      (engine-on (g .first) 0x04 _ (ap enabledOf (l .control₁) ∙ off₁))
+
+-- Demand 3, its first part.
+pub demand3 : Demand3
+demand3 p pre mid st four z z′ =
+    let l = lead-master p st pre mid four z z′ in
+    let s = settingsOf (controlOf master p) in
+    exchanged-at (serial-here p st) (s .phase) (s .polarity) (s .bits) (s .half) (settingsOf (controlOf slave p) .half) (s .silent) _ _ _ (masterOn pre mid p)
+    (record { serial = serial-here p st; master = ap settingsOf (l .control₁) ∙ on₁ p st; slave = ap settingsOf (l .control₂) ∙ on₂ p st })
+    l (omega arith) (subst (λ (n : ℕ). 4 ≤ n) (sym (bits-are (controlOf master p))) (bits-least _ (st .permitted-master))) (subst (λ (n : ℕ). n ≤ 16) (sym (bits-are (controlOf master p))) (bits-most _)) (st .half)

@@ -1,0 +1,167 @@
+-- Motorola frames: their beginning and their end, as far as both phases share them; and what a format has to give.
+use Prim.Native.Nat.{ℕ, zero, suc, _+_, _-_, _*_, _≤_, _<_}
+use mathlib.Core.Path.{_≡_, refl, sym, ap, ap₂, _∙_, subst}
+use mathlib.Core.Bool.{Bool, true, false, not, _&&_}
+use mathlib.Core.List.{List, [], _∷_, map}
+use native.Mathlib.Omega.{arith}
+use lib.Dec.{ltb, leb, eqb, eqb·suc-zero}
+use lib.ListN.{length, getD}
+use borrow.Author.Tests.{eq-eqb, ne-eqb, lt-ltb, le-ltb}
+use Rattle.registers.specs.Choose.{pick}
+use Rattle.registers.specs.Time.{cycles, slots}
+use Rattle.registers.specs.Transfer.{rest}
+use Rattle.registers.specs.declared.settings.Format.the-variants.{Motorola}
+use Rattle.registers.specs.declared.settings.Settings.{Settings}
+use Rattle.serial.specs.Bits.{bitOf, cut}
+use Rattle.serial.specs.Engine.{cleared, clearShift, still, loaded}
+use Rattle.serial.specs.Slots.{eventOf, motorolaEvent, lastSlot, levelsOf}
+use Rattle.serial.specs.Lines.{masterLines, slaveLines, frameLines}
+use Rattle.serial.specs.Master.{act, masterStep, masterEnd, acting, resting, dataBit}
+use Rattle.serial.specs.Slave.{slaveStep, slaveEnd, motorolaSlave, motorolaSelect, motorolaEdges, captureEdge, driveEdge, motorolaClock}
+use Rattle.serial.specs.Pair.{wire}
+use Rattle.serial.proofs.Exchange.Trace.{Trace, none, more, iterate, trace-ever, trace-run}
+use Rattle.serial.proofs.Exchange.Core.{Receiver, Side, Pair, plain, push, moved, waits, acted, masterSide, slaveSide, coreCycle, busy}
+use Rattle.serial.proofs.Exchange.Settle.{Two, at, onward, slotStep, next, Live, rested, Meets, slots-trace, Lawful, Settled, side-first}
+use Rattle.serial.proofs.Exchange.Quiet.{lawful-motorola}
+use Rattle.serial.proofs.Exchange.Events.{motorola-release, levels-first}
+use Rattle.serial.proofs.Exchange.Moves.{Queues, inFrame, shown, hidden, sending, shifted, acted-by, slave-by, Slot, slot-of, Going}
+use Rattle.serial.proofs.Exchange.Motorola.{sm, ss, chosen, filledAt, lines-at}
+use Rattle.serial.specs.declared.engine.Engine.{Engine}
+use Rattle.serial.specs.declared.engine.Step.{Step}
+use Rattle.serial.specs.declared.lines.Lines.{Lines}
+use Rattle.serial.specs.declared.slots.Event.the-variants.{Release}
+
+-- the oldest word to send, zero if there is none
+abbrev pub front : List ℕ → ℕ
+front vs = getD vs 0 0
+
+-- between frames
+abbrev pub idle : Queues → Two
+idle k =
+    record {
+      m = record { tx = k .mtx; rx = k .mrx; engine = cleared; lines = hidden };
+      s = record { tx = k .stx; rx = k .srx; engine = cleared; lines = hidden };
+    }
+
+abbrev pub holding : List ℕ → Receiver → List ℕ → Receiver → Queues
+holding ws q vs r = record { mtx = ws; mrx = q; stx = vs; srx = r }
+
+pub waits-cons : (w : ℕ) (ws : List ℕ) → waits (w ∷ ws) ≡ true
+waits-cons w ws = ap not (eqb·suc-zero (length ws))
+
+-- an idle master with a waiting word starts slot 0
+abbrev pub opened : ℕ → List ℕ → Receiver → Side
+opened w ws q = record { tx = ws; rx = q; engine = sending 0 (loaded w); lines = inFrame false false }
+
+pub begin-acts : (phase : Bool) (b h w : ℕ) (ws : List ℕ) (q : Receiver) (d : Bool)
+    → acted (sm phase b h) (record { tx = w ∷ ws; rx = q; engine = cleared; lines = hidden }) d ≡ opened w ws q
+unfolding acted masterStep acting resting eventOf motorolaEvent
+begin-acts phase b h w ws q d =
+    let x : Side = record { tx = w ∷ ws; rx = q; engine = cleared; lines = hidden } in
+    let r : Step = act (sm phase b h) cleared (waits (w ∷ ws)) w (dataBit (sm phase b h) cleared d) (eventOf (sm phase b h) 0) in
+    ap (λ (t : Bool). moved (pick t r (still cleared)) x (masterLines (sm phase b h) (pick t r (still cleared) .engine))) (waits-cons w ws)
+    ∙ ap (moved r x) (lines-at phase b h 0 (loaded w) false (levels-first phase b))
+
+-- FSS is HIGH again
+abbrev pub parked : ℕ → Engine
+parked n = record { slot = slots n; gone = cycles 0; frame = false; selected = false; mark = false; shift = clearShift }
+
+abbrev pub releasedAt : Queues → ℕ → Two
+releasedAt k n = record { m = record { tx = k .mtx; rx = k .mrx; engine = parked n; lines = hidden }; s = idle k .s }
+
+module _ (phase : Bool) (b h : ℕ) (k : Queues) where
+  abbrev freed : ℕ → Side
+  freed n = record { tx = k .mtx; rx = k .mrx; engine = parked n; lines = hidden }
+
+  pub release-slot : (w v c n : ℕ) → n ≡ 2 * b + 2 → Slot (sm phase b h) (ss phase b h) (filledAt b w v k c false n) (freed n) (releasedAt k (n + 1))
+  unfolding eventOf dataBit wire lastSlot onward masterLines slaveLines slaveEnd slaveStep motorolaSlave slaveSide
+  release-slot w v c n e =
+      slot-of (sm phase b h) (ss phase b h) (filledAt b w v k c false n) (freed n) (releasedAt k (n + 1) .m) (idle k .s) (idle k .s)
+      (acted-by (sm phase b h) n (shifted (c + 1) (bitOf b w c) w (cut b v)) (k .mtx) (k .mrx) _ _ (bitOf b v c && true) Release (still (parked n)) (motorola-release phase b n e) refl refl)
+      (rw (lt-ltb n (2 * b + 3) (omega arith)))
+      (slave-by (ss phase b h) (wire (inFrame false (bitOf b w c))) (wire hidden) (filledAt b w v k c false n .s) (still cleared) cleared hidden refl refl refl)
+      refl refl
+
+  parked-acts : (n : ℕ) (d : Bool) → 0 < n → acted (sm phase b h) (freed n) d ≡ freed n
+  unfolding acted masterStep acting resting masterLines
+  parked-acts n d l = rw (ne-eqb n 0 (omega arith))
+
+  pub pause-slot : (n : ℕ) → n ≡ 2 * b + 3 → Slot (sm phase b h) (ss phase b h) (releasedAt k n) (freed n) (idle k)
+  unfolding wire lastSlot onward slaveLines slaveEnd slaveStep motorolaSlave slaveSide
+  pause-slot n e =
+      slot-of (sm phase b h) (ss phase b h) (releasedAt k n) (freed n) (idle k .m) (idle k .s) (idle k .s)
+      (parked-acts n false (omega arith))
+      (rw (le-ltb n (2 * b + 3) (omega arith)))
+      refl refl refl
+
+-- the pair at rest with nothing to send
+pub idle-stays : (phase : Bool) (b h : ℕ) (q : Receiver) (vs : List ℕ) (r : Receiver)
+    → coreCycle (sm phase b h) (ss phase b h) (rested (idle (holding [] q vs r))) ≡ rested (idle (holding [] q vs r))
+unfolding coreCycle masterSide acted masterStep masterEnd acting resting masterLines slaveLines slaveEnd slaveStep motorolaSlave slaveSide wire
+idle-stays phase b h q vs r = refl
+
+-- What both receive queues hold.
+abbrev pub Holds : Receiver → Receiver → Pair → Type 0
+Holds q r p = (p .m .rx ≡ q) × (p .s .rx ≡ r)
+
+-- from the last capture on nothing changes in the receive queues
+pub ever : (phase : Bool) (b h w v c : ℕ) (q : Receiver) (vs : List ℕ) (r : Receiver) → 6 ≤ h → Settled (sm phase b h) (ss phase b h) (filledAt b w v (holding [] q vs r) c false (2 * b + 2))
+    → (i : ℕ) → Holds q r (iterate i (coreCycle (sm phase b h) (ss phase b h)) (rested (filledAt b w v (holding [] q vs r) c false (2 * b + 2))))
+ever phase b h w v c q vs r l z i =
+    let k = holding [] q vs r in
+    let QM : Side → Type 0 = λ x. x .rx ≡ q in
+    let QS : Side → Type 0 = λ x. x .rx ≡ r in
+    let one = release-slot phase b h k w v c (2 * b + 2) refl in
+    let two = pause-slot phase b h k (2 * b + 2 + 1) (omega arith) in
+    trace-ever
+    (slots-trace (sm phase b h) (ss phase b h) QM QS (lawful-motorola phase b h) l z
+    (more (record { live = subst Live (sym (one .acts)) (ne-eqb (2 * b + 2) 0 (omega arith)); before = refl; during = λ j. ap (λ (x : Side). x .rx) (one .acts); slave = refl; sees = one .gets; rests = ap (λ (t : Two). t .s .rx) (one .steps) }) (one .steps)
+    (more (record { live = subst Live (sym (two .acts)) (ne-eqb (2 * b + 2 + 1) 0 (omega arith)); before = refl; during = λ j. ap (λ (x : Side). x .rx) (two .acts); slave = refl; sees = two .gets; rests = ap (λ (t : Two). t .s .rx) (two .steps) }) (two .steps) none)))
+    (refl, refl)
+    (idle-stays phase b h q vs r)
+    i
+
+-- the release's first cycle ends BSY
+pub freed-busy : (phase : Bool) (b h w v c : ℕ) (q : Receiver) (vs : List ℕ) (r : Receiver) → 1 < h
+    → busy (coreCycle (sm phase b h) (ss phase b h) (rested (filledAt b w v (holding [] q vs r) c false (2 * b + 2))) .m) ≡ false
+unfolding coreCycle wire
+freed-busy phase b h w v c q vs r l =
+    let one = release-slot phase b h (holding [] q vs r) w v c (2 * b + 2) refl in
+    ap busy (side-first (sm phase b h) (filledAt b w v (holding [] q vs r) c false (2 * b + 2) .m) (bitOf b v c && true) (subst Live (sym (one .acts)) (ne-eqb (2 * b + 2) 0 (omega arith))) l)
+    ∙ ap busy (one .acts)
+
+-- What a format gives -------------------------------------------------------------------------------------------------
+
+-- the receive queues after a load of ws against vs, oldest first
+abbrev pub pushAll : List ℕ → Receiver → Receiver
+pushAll [] q = q
+pushAll (w ∷ ws) q = pushAll ws (push w q)
+
+-- as many words of vs as ws has, then zeros
+abbrev pub answers : List ℕ → List ℕ → List ℕ
+answers [] vs = []
+answers (w ∷ ws) vs = front vs ∷ answers ws (rest vs)
+
+-- between frames, with the master's idle lines
+abbrev pub starts : Lines → Queues → Two
+starts i k =
+    record {
+      m = record { tx = k .mtx; rx = k .mrx; engine = cleared; lines = i };
+      s = record { tx = k .stx; rx = k .srx; engine = cleared; lines = hidden };
+    }
+
+-- `slots n`: as many as one word and n more keep the master busy; `quits`: so many cycles later BSY is 0.
+pub record Exchange (sm ss : Settings) (b : ℕ) (i : Lines) (slots : ℕ → ℕ) (quits : ℕ) : Type 0 where
+  -- the state after these slots
+  pub last : ℕ → List ℕ → Receiver → List ℕ → Receiver → Two
+  pub settled : (k : Queues) → Settled sm ss (starts i k)
+  pub holds : (k : Queues) → Holds (k .mrx) (k .srx) (rested (starts i k))
+  pub run : (w : ℕ) (ws : List ℕ) (q : Receiver) (vs : List ℕ) (r : Receiver) → Trace (Going sm ss) (slotStep sm ss) (slots (length ws)) (starts i (holding (w ∷ ws) q vs r)) (last w ws q vs r)
+  pub hold : (w : ℕ) (ws : List ℕ) (q : Receiver) (vs : List ℕ) (r : Receiver) (n : ℕ) → n < quits → busy (iterate n (coreCycle sm ss) (rested (last w ws q vs r)) .m) ≡ true
+  pub free : (w : ℕ) (ws : List ℕ) (q : Receiver) (vs : List ℕ) (r : Receiver) → busy (iterate quits (coreCycle sm ss) (rested (last w ws q vs r)) .m) ≡ false
+  -- and the receive queues stay from there on
+  pub ever : (w : ℕ) (ws : List ℕ) (q : Receiver) (vs : List ℕ) (r : Receiver) (n : ℕ)
+      → Holds (pushAll (map (cut b) (answers (w ∷ ws) vs)) q) (pushAll (map (cut b) (w ∷ ws)) r) (iterate n (coreCycle sm ss) (rested (last w ws q vs r)))
+  -- with nothing to send nothing happens
+  pub rest : (q : Receiver) (vs : List ℕ) (r : Receiver) → coreCycle sm ss (rested (starts i (holding [] q vs r))) ≡ rested (starts i (holding [] q vs r))
+  pub unbusy : (q : Receiver) (vs : List ℕ) (r : Receiver) → busy (starts i (holding [] q vs r) .m) ≡ false

@@ -1,0 +1,194 @@
+-- Motorola: a word from each side, bit by bit, for both phases at once.
+use Prim.Native.Nat.{ℕ, zero, suc, _+_, _-_, _*_, _≤_, _<_}
+use mathlib.Core.Path.{_≡_, refl, sym, ap, ap₂, _∙_}
+use mathlib.Core.Bool.{Bool, true, false, not, _&&_, and-true}
+use mathlib.Core.List.{List, [], _∷_}
+use native.Mathlib.Omega.{arith}
+use lib.Dec.{ltb, leb, eqb}
+use lib.ListN.{length, getD}
+use borrow.Author.Tests.{eq-eqb, ne-eqb, lt-ltb, le-ltb, le-leb, lt-leb}
+use Rattle.registers.specs.Choose.{pick}
+use Rattle.registers.specs.Time.{cycles, slots}
+use Rattle.registers.specs.declared.settings.Format.the-variants.{Motorola}
+use Rattle.registers.specs.declared.settings.Settings.{Settings}
+use Rattle.serial.specs.Bits.{bitOf, cut, shiftedIn}
+use Rattle.serial.specs.Engine.{cleared, clearShift, withShift, still, started, driven, captureStep}
+use Rattle.serial.specs.Slots.{eventOf, lastSlot, widthOf, motorolaLevels, levelsOf}
+use Rattle.serial.specs.Lines.{masterLines, slaveLines, frameLines}
+use Rattle.serial.specs.Master.{masterStep, acting, resting, dataBit}
+use Rattle.serial.specs.Slave.{slaveStep, slaveEnd, motorolaSlave, motorolaSelect, motorolaEdges, motorolaClock, captureEdge, driveEdge}
+use Rattle.serial.specs.Pair.{wire}
+use Rattle.serial.proofs.Exchange.Trace.{Trace, none, more, trace-count, trace-end, trace-then}
+use Rattle.serial.proofs.Exchange.Top.{top, top-zero, top-next, top-last}
+use Rattle.serial.proofs.Exchange.Core.{Receiver, Side, plain, push, acted, slaveSide, busy}
+use Rattle.serial.proofs.Exchange.Settle.{Two, at, onward, slotStep, next, Live, Settled}
+use Rattle.serial.proofs.Exchange.Events.{motorola-drive, motorola-capture, motorola-last, motorola-release, lowAt, levels-drive, levels-capture, levels-last, levels-first}
+use Rattle.serial.specs.declared.engine.Engine.{Engine}
+use Rattle.serial.specs.declared.engine.Shift.{Shift}
+use Rattle.serial.specs.declared.lines.Lines.{Lines}
+use Rattle.serial.specs.declared.slots.Levels.{Levels}
+use Rattle.serial.specs.declared.slots.Event.the-variants.{Begin, Drive, Capture, Chain, Release, Pause}
+use Rattle.serial.proofs.Exchange.Moves.{Queues, inFrame, shown, hidden, sending, shifted, slot-parts, acted-by, onward-in, capture-in, completed, capture-last, slave-by, Slot, slot-of, Going, going}
+use Rattle.serial.proofs.Exchange.Quiet.{quiet-low}
+
+-- a slave's engine while it is selected
+abbrev pub chosen : Bool → Shift → Engine
+chosen f x = record { slot = slots 0; gone = cycles 0; frame = f; selected = true; mark = false; shift = x }
+
+module _ (phase : Bool) (b h : ℕ) where
+  abbrev pub sm : Settings
+  sm = plain Motorola phase b h false
+
+  abbrev pub ss : Settings
+  ss = plain Motorola phase b h true
+
+  abbrev pub step : Two → Two
+  step = slotStep (plain Motorola phase b h false) (plain Motorola phase b h true)
+
+  -- c bits are through, and both have the next one on their lines; the next slot is n
+  abbrev pub drivenAt : ℕ → ℕ → Queues → ℕ → ℕ → Two
+  drivenAt w v k c n =
+      record {
+        m = record { tx = k .mtx; rx = k .mrx; engine = sending n (shifted c (bitOf b w c) w (top b v c)); lines = inFrame phase (bitOf b w c) };
+        s = record { tx = k .stx; rx = k .srx; engine = chosen true (shifted c (bitOf b v c) v (top b w c)); lines = shown (bitOf b v c) };
+      }
+
+  -- the same after the capture
+  abbrev pub capturedAt : ℕ → ℕ → Queues → ℕ → ℕ → Two
+  capturedAt w v k c n =
+      record {
+        m = record { tx = k .mtx; rx = k .mrx; engine = sending n (shifted (c + 1) (bitOf b w c) w (top b v (c + 1))); lines = inFrame (not phase) (bitOf b w c) };
+        s = record { tx = k .stx; rx = k .srx; engine = chosen true (shifted (c + 1) (bitOf b v c) v (top b w (c + 1))); lines = shown (bitOf b v c) };
+      }
+
+-- The master's lines in a frame, and the slave's.
+pub lines-at : (phase : Bool) (b h n : ℕ) (x : Shift) (c : Bool) → motorolaLevels phase b n ≡ lowAt c → masterLines (sm phase b h) (sending n x) ≡ inFrame c (x .level)
+unfolding masterLines levelsOf frameLines
+lines-at phase b h n x true e = ap (λ (v : Levels). frameLines (sm phase b h) v (x .level)) e
+lines-at phase b h n x false e = ap (λ (v : Levels). frameLines (sm phase b h) v (x .level)) e
+
+-- At a capture edge a slave in a word captures; at the other edge it drives the next bit.
+slave-captures : (phase : Bool) (b h : ℕ) (x : Shift) (d d′ : Bool) (n : ℕ) → slaveStep (ss phase b h) (chosen true x) (wire (inFrame phase d)) (wire (inFrame (not phase) d′)) n ≡ captureStep b (d′ && true) (chosen true x)
+unfolding slaveStep motorolaSlave motorolaSelect motorolaEdges captureEdge driveEdge motorolaClock dataBit wire
+slave-captures true b h x d d′ n = refl
+slave-captures false b h x d d′ n = refl
+
+slave-drives : (phase : Bool) (b h : ℕ) (x : Shift) (d d′ : Bool) (n : ℕ) → slaveStep (ss phase b h) (chosen true x) (wire (inFrame (not phase) d)) (wire (inFrame phase d′)) n ≡ still (withShift (chosen true x) (driven b (x .captured) x))
+unfolding slaveStep motorolaSlave motorolaSelect motorolaEdges captureEdge driveEdge motorolaClock dataBit wire
+slave-drives true b h x d d′ n = refl
+slave-drives false b h x d d′ n = refl
+
+-- a slave in a word goes on with it
+pub in-word : (phase : Bool) (b h : ℕ) (x : Shift) → x .captured < b → slaveEnd (ss phase b h) (chosen true x) ≡ chosen true x
+unfolding slaveEnd
+in-word phase b h x l = rw (lt-leb b (x .captured) l)
+
+-- a selected slave that sees no edge stays as it is
+pub calm : (phase : Bool) (b h : ℕ) (tx : List ℕ) (rx : Receiver) (f : Bool) (x : Shift) (c d d′ : Bool) → slaveEnd (ss phase b h) (chosen f x) ≡ chosen f x
+    → slaveSide (ss phase b h) (wire (inFrame c d)) (wire (inFrame c d′)) (record { tx = tx; rx = rx; engine = chosen f x; lines = shown (x .level) })
+    ≡ record { tx = tx; rx = rx; engine = chosen f x; lines = shown (x .level) }
+unfolding wire slaveLines
+calm phase b h tx rx f x c d d′ e =
+    slave-by (ss phase b h) _ _ (record { tx = tx; rx = rx; engine = chosen f x; lines = shown (x .level) }) (still (chosen f x)) (chosen f x) (shown (x .level)) (quiet-low phase b h c (d && true) (d′ && true) (chosen f x) _) e refl
+
+-- bit c of the partner's word, shifted in
+pub next-bit : (b w c : ℕ) → c < b → b ≤ 16 → shiftedIn (top b w c) (bitOf b w c && true) ≡ top b w (c + 1)
+next-bit b w c l m = ap (shiftedIn (top b w c)) (and-true (bitOf b w c)) ∙ top-next b w c l m
+
+pub last-bit : (b w c : ℕ) → c + 1 ≡ b → b ≤ 16 → shiftedIn (top b w c) (bitOf b w c && true) ≡ cut b w
+last-bit b w c l m = ap (shiftedIn (top b w c)) (and-true (bitOf b w c)) ∙ top-last b w c l m
+
+module _ (phase : Bool) (b h w v : ℕ) (k : Queues) (m : b ≤ 16) where
+  abbrev now : ℕ → ℕ → Side
+  now c n = record { tx = k .mtx; rx = k .mrx; engine = sending n (shifted (c + 1) (bitOf b w c) w (top b v (c + 1))); lines = inFrame (not phase) (bitOf b w c) }
+
+  -- a bit is captured on both sides
+  capture-slot : (c n : ℕ) → n ≡ 2 * c + 2 → c + 1 < b → Slot (sm phase b h) (ss phase b h) (drivenAt phase b h w v k c n) (now c n) (capturedAt phase b h w v k c (n + 1))
+  unfolding eventOf dataBit wire lastSlot slaveLines
+  capture-slot c n e l =
+      let x = shifted (c + 1) (bitOf b w c) w (top b v (c + 1)) in
+      let x′ = shifted (c + 1) (bitOf b v c) v (top b w (c + 1)) in
+      slot-of (sm phase b h) (ss phase b h) (drivenAt phase b h w v k c n) (now c n) (capturedAt phase b h w v k c (n + 1) .m) (capturedAt phase b h w v k c (n + 1) .s) (capturedAt phase b h w v k c (n + 1) .s)
+      (acted-by (sm phase b h) n (shifted c (bitOf b w c) w (top b v c)) (k .mtx) (k .mrx) _ _ (bitOf b v c && true) Capture (still (sending n x)) (motorola-capture phase b n c e (omega arith))
+      (capture-in b (bitOf b v c && true) (sending n (shifted c (bitOf b w c) w (top b v c))) l ∙ ap (λ (r : ℕ). still (sending n (shifted (c + 1) (bitOf b w c) w r))) (next-bit b v c (omega arith) m))
+      (lines-at phase b h n x (not phase) (levels-capture phase b n c e (omega arith))))
+      (onward-in (sm phase b h) n x (k .mtx) (k .mrx) _ (omega arith))
+      (slave-by (ss phase b h) _ _ (drivenAt phase b h w v k c n .s) (still (chosen true x′)) (chosen true x′) (shown (bitOf b v c))
+      (slave-captures phase b h (shifted c (bitOf b v c) v (top b w c)) (bitOf b w c) (bitOf b w c) _
+      ∙ capture-in b (bitOf b w c && true) (chosen true (shifted c (bitOf b v c) v (top b w c))) l ∙ ap (λ (r : ℕ). still (chosen true (shifted (c + 1) (bitOf b v c) v r))) (next-bit b w c (omega arith) m))
+      (in-word phase b h x′ l) refl)
+      (calm phase b h (k .stx) (k .srx) true x′ (not phase) (bitOf b w c) (bitOf b w c) (in-word phase b h x′ l)) refl
+
+  abbrev later : ℕ → ℕ → Side
+  later c n = record { tx = k .mtx; rx = k .mrx; engine = sending n (shifted (c + 1) (bitOf b w (c + 1)) w (top b v (c + 1))); lines = inFrame phase (bitOf b w (c + 1)) }
+
+  -- the next bit goes on both lines
+  drive-slot : (c n : ℕ) → n ≡ 2 * (c + 1) + 1 → c + 1 < b → Slot (sm phase b h) (ss phase b h) (capturedAt phase b h w v k c n) (later c n) (drivenAt phase b h w v k (c + 1) (n + 1))
+  unfolding eventOf dataBit wire lastSlot widthOf slaveLines driven
+  drive-slot c n e l =
+      let x = shifted (c + 1) (bitOf b w (c + 1)) w (top b v (c + 1)) in
+      let x′ = shifted (c + 1) (bitOf b v (c + 1)) v (top b w (c + 1)) in
+      slot-of (sm phase b h) (ss phase b h) (capturedAt phase b h w v k c n) (later c n) (drivenAt phase b h w v k (c + 1) (n + 1) .m) (drivenAt phase b h w v k (c + 1) (n + 1) .s) (drivenAt phase b h w v k (c + 1) (n + 1) .s)
+      (acted-by (sm phase b h) n (shifted (c + 1) (bitOf b w c) w (top b v (c + 1))) (k .mtx) (k .mrx) _ _ (bitOf b v c && true) (Drive (c + 1)) (still (sending n x)) (motorola-drive phase b n (c + 1) e l) refl
+      (lines-at phase b h n x phase (levels-drive phase b n (c + 1) e l)))
+      (onward-in (sm phase b h) n x (k .mtx) (k .mrx) _ (omega arith))
+      (slave-by (ss phase b h) _ _ (capturedAt phase b h w v k c n .s) (still (chosen true x′)) (chosen true x′) (shown (bitOf b v (c + 1)))
+      (slave-drives phase b h (shifted (c + 1) (bitOf b v c) v (top b w (c + 1))) (bitOf b w c) (bitOf b w (c + 1)) _)
+      (in-word phase b h x′ l) refl)
+      (calm phase b h (k .stx) (k .srx) true x′ phase (bitOf b w (c + 1)) (bitOf b w (c + 1)) (in-word phase b h x′ l)) refl
+
+  -- from bit c on the lines to bit d: j more bits
+  bits-run : (j c d n o : ℕ) → c + j ≡ d → n + 2 * j ≡ o → n ≡ 2 * c + 2 → d < b
+      → Trace (Going (sm phase b h) (ss phase b h)) (step phase b h) (2 * j) (drivenAt phase b h w v k c n) (drivenAt phase b h w v k d o)
+  bits-run zero c d n o p q e l = trace-end none (ap₂ (drivenAt phase b h w v k) (omega arith) (omega arith))
+  bits-run (suc j) c d n o p q e l =
+      trace-count (omega arith)
+      (going (capture-slot c n e (omega arith)) refl refl refl
+      (going (drive-slot c (n + 1) (omega arith) (omega arith)) refl refl refl
+      (bits-run j (c + 1) d (n + 1 + 1) o (omega arith) (omega arith) (omega arith) l)))
+
+-- Words received on both sides.
+abbrev pub received : ℕ → ℕ → ℕ → Queues → Queues
+received b w v k = record { mtx = k .mtx; mrx = push (cut b v) (k .mrx); stx = k .stx; srx = push (cut b w) (k .srx) }
+
+-- after a word's last capture, of bit c; the clock's level is given
+abbrev pub filledAt : ℕ → ℕ → ℕ → Queues → ℕ → Bool → ℕ → Two
+filledAt b w v k c clk n =
+    record {
+      m = record { tx = k .mtx; rx = k .mrx; engine = sending n (shifted (c + 1) (bitOf b w c) w (cut b v)); lines = inFrame clk (bitOf b w c) };
+      s = record { tx = k .stx; rx = k .srx; engine = chosen false (shifted (c + 1) (bitOf b v c) v (cut b w)); lines = shown (bitOf b v c) };
+    }
+
+pub ended : (phase : Bool) (b h : ℕ) (x : Shift) → slaveEnd (ss phase b h) (chosen false x) ≡ chosen false x
+unfolding slaveEnd
+ended phase b h x = refl
+
+module _ (phase : Bool) (b h w v : ℕ) (k : Queues) (m : b ≤ 16) where
+  abbrev full : ℕ → ℕ → Side
+  full c n = record { tx = k .mtx; rx = push (cut b v) (k .mrx); engine = sending n (shifted (c + 1) (bitOf b w c) w (cut b v)); lines = inFrame (not phase) (bitOf b w c) }
+
+  -- the last bit is captured on both sides
+  last-slot : (c n : ℕ) → n ≡ 2 * c + 2 → c + 1 ≡ b → Slot (sm phase b h) (ss phase b h) (drivenAt phase b h w v k c n) (full c n) (filledAt b w v (received b w v k) c (not phase) (n + 1))
+  unfolding eventOf dataBit wire lastSlot slaveLines slaveEnd
+  last-slot c n e l =
+      let x = shifted (c + 1) (bitOf b w c) w (cut b v) in
+      let x′ = shifted (c + 1) (bitOf b v c) v (cut b w) in
+      let z = filledAt b w v (received b w v k) c (not phase) (n + 1) in
+      slot-of (sm phase b h) (ss phase b h) (drivenAt phase b h w v k c n) (full c n) (z .m) (z .s) (z .s)
+      (acted-by (sm phase b h) n (shifted c (bitOf b w c) w (top b v c)) (k .mtx) (k .mrx) _ _ (bitOf b v c && true) Capture
+      (completed (sending n (shifted c (bitOf b w c) w (top b v c))) (cut b v)) (motorola-capture phase b n c e (omega arith))
+      (capture-last b (bitOf b v c && true) (sending n (shifted c (bitOf b w c) w (top b v c))) (cut b v) l (last-bit b v c l m))
+      (lines-at phase b h n x (not phase) (levels-capture phase b n c e (omega arith))))
+      (onward-in (sm phase b h) n x (k .mtx) (push (cut b v) (k .mrx)) _ (omega arith))
+      (slave-by (ss phase b h) _ _ (drivenAt phase b h w v k c n .s) (completed (chosen true (shifted c (bitOf b v c) v (top b w c))) (cut b w)) (chosen false x′) (shown (bitOf b v c))
+      (slave-captures phase b h (shifted c (bitOf b v c) v (top b w c)) (bitOf b w c) (bitOf b w c) _
+      ∙ capture-last b (bitOf b w c && true) (chosen true (shifted c (bitOf b v c) v (top b w c))) (cut b w) l (last-bit b w c l m))
+      (rw (le-leb b (c + 1) (omega arith))) refl)
+      (calm phase b h (k .stx) (push (cut b w) (k .srx)) false x′ (not phase) (bitOf b w c) (bitOf b w c) (ended phase b h x′)) refl
+
+  -- a word, from its first bit on the lines to its last capture
+  pub word-run : 0 < b → Trace (Going (sm phase b h) (ss phase b h)) (step phase b h) (2 * b - 1) (drivenAt phase b h w v k 0 2) (filledAt b w v (received b w v k) (b - 1) (not phase) (2 * b + 1))
+  word-run l =
+      trace-count (omega arith)
+      (trace-then (bits-run phase b h w v k m (b - 1) 0 (b - 1) 2 (2 * b) (omega arith) (omega arith) (omega arith) (omega arith))
+      (going (last-slot (b - 1) (2 * b) (omega arith) (omega arith)) refl refl refl none))

@@ -1,0 +1,287 @@
+-- A cycle of two wired devices is a cycle of the exchange: the rest of the register file has no say, and SPO only turns the clock over on the wire.
+use Prim.Native.Nat.{ℕ}
+use mathlib.Core.Path.{_≡_, refl, sym, ap, ap₂, _∙_, subst}
+use mathlib.Core.Bool.{Bool, true, false, not, _&&_, _||_}
+use mathlib.Core.List.{List, [], _∷_, _++_, append-nil}
+use lib.Dec.{ltb, eqb}
+use lib.ListN.{length, getD}
+use Rattle.registers.specs.Choose.{pick}
+use Rattle.registers.specs.Model.{Model}
+use Rattle.registers.specs.Settings.{settingsOf, enabledOf}
+use Rattle.registers.specs.Transfer.{added, rest, waitingOf, nextWord, sentModel, receivedModel, endedModel}
+use Rattle.registers.specs.declared.settings.Format.{Format}
+use Rattle.registers.specs.declared.settings.Format.the-variants.{Motorola, Ti, Microwire, Reserved}
+use Rattle.registers.specs.declared.settings.Settings.{Settings}
+use Rattle.serial.specs.Engine.{captureStep, still, cleared}
+use Rattle.serial.specs.Slots.{eventOf, lastSlot, widthOf, levelsOf}
+use Rattle.serial.specs.Lines.{differ, masterLines, slaveLines, frameLines, linesOf}
+use Rattle.serial.specs.Master.{act, masterStep, masterEnd, ticked, acting, dataBit}
+use Rattle.serial.specs.Slave.{slaveStep, slaveEnd, motorolaSlave, motorolaSelect, motorolaEdges, motorolaClock, captureEdge, driveEdge, tiSlave, tiFalls, tiRises}
+use Rattle.serial.specs.Cycle.{DeviceModel, stepOf, endOf, takenModel, completeModel, deviceStep, completedOf, follow, cycleOf}
+use Rattle.serial.specs.Pair.{wire, PairModel, pairCycle}
+use Rattle.serial.proofs.Exchange.Core.{Receiver, Side, Pair, plain, push, moved, waits, withEngine, masterMoves, slaveMoves, acted, masterSide, slaveSide, coreCycle}
+use Rattle.serial.specs.declared.History.{History}
+use Rattle.serial.specs.declared.engine.Engine.{Engine}
+use Rattle.serial.specs.declared.engine.Step.{Step}
+use Rattle.serial.specs.declared.lines.Lines.{Lines}
+use Rattle.serial.specs.declared.lines.Pins.{Pins}
+use Rattle.serial.specs.declared.slots.Event.{Event}
+use Rattle.serial.specs.declared.slots.Event.the-variants.{Begin, BeginDrive, Drive, First, Capture, Chain, JoinDrive, JoinCapture, Quiet, Release, Pause}
+use Rattle.serial.specs.declared.slots.Levels.{Levels}
+
+-- Settings with everything named: SPO p, SOD o.
+abbrev pub given : Format → Bool → Bool → ℕ → ℕ → Bool → Bool → Settings
+given f phase p b h slave o =
+    record { format = f; phase = phase; polarity = p; bits = b; half = h; slave = slave; silent = o; loopback = false; enabled = true }
+
+-- SPO as far as it means something.
+abbrev pub turns : Format → Bool → Bool
+turns Motorola p = p
+turns Ti p = false
+turns Microwire p = false
+turns Reserved p = false
+
+abbrev pub turnPins : Bool → Pins → Pins
+turnPins p x = record { clk = differ (x .clk) p; fss = x .fss; rxd = x .rxd }
+
+abbrev pub turnLines : Bool → Lines → Lines
+turnLines p x = record { clk = differ (x .clk) p; fss = x .fss; txd = x .txd; released = x .released }
+
+differ-twice : (a p : Bool) → differ (differ a p) p ≡ a
+differ-twice true true = refl
+differ-twice true false = refl
+differ-twice false true = refl
+differ-twice false false = refl
+
+pub turn-twice : (p : Bool) (x : Lines) → turnLines p (turnLines p x) ≡ x
+turn-twice p x = ap (λ (c : Bool). record { clk = c; fss = x .fss; txd = x .txd; released = x .released }) (differ-twice (x .clk) p)
+
+pub turn-pins-twice : (p : Bool) (x : Pins) → turnPins p (turnPins p x) ≡ x
+turn-pins-twice p x = ap (λ (c : Bool). record { clk = c; fss = x .fss; rxd = x .rxd }) (differ-twice (x .clk) p)
+
+pub wire-turns : (p : Bool) (x : Lines) → wire (turnLines p x) ≡ turnPins p (wire x)
+unfolding wire
+wire-turns p x = refl
+
+-- The master --------------------------------------------------------------------------------------------------------------
+
+act-plain : (f : Format) (phase p : Bool) (b h : ℕ) (o : Bool) (e : Engine) (w : Bool) (n : ℕ) (d : Bool) (v : Event)
+    → act (given f phase p b h false o) e w n d v ≡ act (plain f phase b h false) e w n d v
+unfolding widthOf
+act-plain f phase p b h o e w n d Begin = refl
+act-plain f phase p b h o e w n d BeginDrive = refl
+act-plain f phase p b h o e w n d (Drive i) = refl
+act-plain f phase p b h o e w n d First = refl
+act-plain f phase p b h o e w n d Capture = refl
+act-plain f phase p b h o e w n d (Chain i) = refl
+act-plain f phase p b h o e w n d (JoinDrive i) = refl
+act-plain f phase p b h o e w n d JoinCapture = refl
+act-plain f phase p b h o e w n d Quiet = refl
+act-plain f phase p b h o e w n d Release = refl
+act-plain f phase p b h o e w n d Pause = refl
+
+step-plain : (f : Format) (phase p : Bool) (b h : ℕ) (o : Bool) (e : Engine) (w : Bool) (n : ℕ) (d : Bool)
+    → masterStep (given f phase p b h false o) e w n d ≡ masterStep (plain f phase b h false) e w n d
+unfolding masterStep dataBit eventOf
+step-plain f phase p b h o e w n d = ap (λ (r : Step). pick (acting e w) r (still e)) (act-plain f phase p b h o e w n d (eventOf (plain f phase b h false) (e .slot .0)))
+
+end-plain : (f : Format) (phase p : Bool) (b h : ℕ) (o : Bool) (e : Engine) → masterEnd (given f phase p b h false o) e ≡ masterEnd (plain f phase b h false) e
+unfolding masterEnd ticked lastSlot
+end-plain f phase p b h o e = refl
+
+differ-low : (c p : Bool) → differ c p ≡ differ (differ c false) p
+differ-low true p = refl
+differ-low false p = refl
+
+differ-false : (c : Bool) → c ≡ differ c false
+differ-false true = refl
+differ-false false = refl
+
+-- The formats of a pair.
+pub data Serial : Format → Type 0 where
+  motorola : Serial Motorola
+  ti : Serial Ti
+
+lines-plain : {f : Format} → Serial f → (phase p : Bool) (b h : ℕ) (o : Bool) (e : Engine) → masterLines (given f phase p b h false o) e ≡ turnLines (turns f p) (masterLines (plain f phase b h false) e)
+unfolding masterLines levelsOf frameLines
+lines-plain motorola phase p b h o e = go (e .frame) (levelsOf (plain Motorola phase b h false) (not (eqb (e .shift .captured) 0)) (e .slot .0))
+  where
+    go : (t : Bool) (v : Levels) → pick t (frameLines (given Motorola phase p b h false o) v (e .shift .level)) (record { clk = p; fss = true; txd = false; released = true })
+        ≡ turnLines p (pick t (frameLines (plain Motorola phase b h false) v (e .shift .level)) (record { clk = false; fss = true; txd = false; released = true }))
+    go true v = ap (λ (c : Bool). record { clk = c; fss = v .fss; txd = e .shift .level; released = v .released }) (differ-low (v .clk) p)
+    go false v = refl
+lines-plain ti phase p b h o e =
+    let l = masterLines (plain Ti phase b h false) e in
+    ap (λ (c : Bool). record { clk = c; fss = l .fss; txd = l .txd; released = l .released }) (differ-false (l .clk))
+
+-- The slave ---------------------------------------------------------------------------------------------------------------
+
+motorola-turned : (phase p : Bool) (b h k : ℕ) (e : Engine) (c d f₁ d₁ f₂ d₂ : Bool) (n : ℕ)
+    → slaveStep (given Motorola phase p b k true false) e (record { clk = differ c p; fss = f₁; rxd = d₁ }) (record { clk = differ d p; fss = f₂; rxd = d₂ }) n
+    ≡ slaveStep (plain Motorola phase b h true) e (record { clk = c; fss = f₁; rxd = d₁ }) (record { clk = d; fss = f₂; rxd = d₂ }) n
+unfolding slaveStep motorolaSlave motorolaSelect motorolaEdges motorolaClock captureEdge driveEdge dataBit
+motorola-turned phase true b h k e true true f₁ d₁ f₂ d₂ n = refl
+motorola-turned phase true b h k e true false f₁ d₁ f₂ d₂ n = refl
+motorola-turned phase true b h k e false true f₁ d₁ f₂ d₂ n = refl
+motorola-turned phase true b h k e false false f₁ d₁ f₂ d₂ n = refl
+motorola-turned phase false b h k e true true f₁ d₁ f₂ d₂ n = refl
+motorola-turned phase false b h k e true false f₁ d₁ f₂ d₂ n = refl
+motorola-turned phase false b h k e false true f₁ d₁ f₂ d₂ n = refl
+motorola-turned phase false b h k e false false f₁ d₁ f₂ d₂ n = refl
+
+ti-same : (phase p : Bool) (b h k : ℕ) (e : Engine) (x y : Pins) (n : ℕ) → slaveStep (given Ti phase p b k true false) e x y n ≡ slaveStep (plain Ti phase b h true) e x y n
+unfolding slaveStep tiSlave tiFalls tiRises dataBit
+ti-same phase p b h k e x y n = refl
+
+turn-none : (x : Pins) → turnPins false x ≡ x
+turn-none x = ap (λ (c : Bool). record { clk = c; fss = x .fss; rxd = x .rxd }) (sym (differ-false (x .clk)))
+
+slave-plain : {f : Format} → Serial f → (phase p : Bool) (b h k : ℕ) (e : Engine) (x y : Pins) (n : ℕ)
+    → slaveStep (given f phase p b k true false) e (turnPins (turns f p) x) (turnPins (turns f p) y) n ≡ slaveStep (plain f phase b h true) e x y n
+slave-plain motorola phase p b h k e x y n = motorola-turned phase p b h k e (x .clk) (y .clk) (x .fss) (x .rxd) (y .fss) (y .rxd) n
+slave-plain ti phase p b h k e x y n = ap₂ (λ (u v : Pins). slaveStep (given Ti phase p b k true false) e u v n) (turn-none x) (turn-none y) ∙ ti-same phase p b h k e x y n
+
+slave-end-plain : (f : Format) (phase p : Bool) (b h k : ℕ) (e : Engine) → slaveEnd (given f phase p b k true false) e ≡ slaveEnd (plain f phase b h true) e
+unfolding slaveEnd
+slave-end-plain f phase p b h k e = refl
+
+slave-lines-plain : (f : Format) (phase p : Bool) (b h k : ℕ) (e : Engine) → slaveLines (given f phase p b k true false) e ≡ slaveLines (plain f phase b h true) e
+unfolding slaveLines
+slave-lines-plain f phase p b h k e = refl
+
+-- The registers -----------------------------------------------------------------------------------------------------------
+
+-- the register file after a step, as the exchange has it
+abbrev pub rxOf : Model → List ℕ → Receiver
+rxOf m log = record { held = m .rx; ror = m .ror; log = log }
+
+step-tx : (m : Model) (t c : Bool) (w : ℕ) (f : Bool) → endedModel (completeModel (takenModel m t) c w) f .tx ≡ pick t (rest (m .tx)) (m .tx)
+unfolding endedModel completeModel takenModel receivedModel sentModel
+step-tx m true true w f = refl
+step-tx m true false w f = refl
+step-tx m false true w f = refl
+step-tx m false false w f = refl
+
+step-rx : (m : Model) (t c : Bool) (w : ℕ) (f : Bool) (log : List ℕ)
+    → rxOf (endedModel (completeModel (takenModel m t) c w) f) (log ++ pick c (w ∷ []) []) ≡ pick c (push w (rxOf m log)) (rxOf m log)
+unfolding endedModel completeModel takenModel receivedModel sentModel push
+step-rx m true true w f log = refl
+step-rx m true false w f log = ap (rxOf m) (append-nil log)
+step-rx m false true w f log = refl
+step-rx m false false w f log = ap (rxOf m) (append-nil log)
+
+-- The pair ----------------------------------------------------------------------------------------------------------------
+
+-- a device as the exchange sees it: its clock turned by p, the words completed so far in the log
+abbrev pub sideOf : Bool → List ℕ → DeviceModel → Side
+sideOf p log d = record { tx = d .registers .tx; rx = rxOf (d .registers) log; engine = d .engine; lines = turnLines p (d .lines) }
+
+abbrev pub historyOf : Bool → History → History
+historyOf p h = record { newest = turnPins p (h .newest); middle = turnPins p (h .middle); oldest = turnPins p (h .oldest) }
+
+-- the words completed in a pair cycle
+abbrev pub firstGets : PairModel → List ℕ
+firstGets g = completedOf (g .first) (wire (g .second .lines))
+
+abbrev pub secondGets : PairModel → List ℕ
+secondGets g = completedOf (g .second) (wire (g .first .lines))
+
+-- the lines of a slave have no clock to turn
+abbrev pub coreOf : Bool → List ℕ → List ℕ → PairModel → Pair
+coreOf p l k g =
+    record { m = sideOf p l (g .first); s = sideOf false k (g .second); h = historyOf p (g .second .pins) }
+
+-- the two devices are set up as a pair and enabled
+pub record Paired (f : Format) (phase p : Bool) (b h k : ℕ) (o : Bool) (g : PairModel) : Type 0 where
+  pub serial : Serial f
+  pub master : settingsOf (g .first .registers .control) ≡ given f phase p b h false o
+  pub slave : settingsOf (g .second .registers .control) ≡ given f phase p b k true false
+
+-- the word of a device that waits, once SSE is 1
+waits-on : (m : Model) → enabledOf (m .control) ≡ true → waitingOf m ≡ waits (m .tx)
+unfolding waitingOf
+waits-on m h = ap (λ (t : Bool). t && not (eqb (length (m .tx)) 0)) h
+
+module _ {f : Format} {phase p : Bool} {b h k : ℕ} {o : Bool} (g : PairModel) (P : Paired f phase p b h k o g) where
+  first-on : enabledOf (g .first .registers .control) ≡ true
+  unfolding settingsOf
+  first-on = ap (λ (s : Settings). s .enabled) (P .master)
+
+  second-on : enabledOf (g .second .registers .control) ≡ true
+  unfolding settingsOf
+  second-on = ap (λ (s : Settings). s .enabled) (P .slave)
+
+  -- the master's step
+  first-step : (x : Pins) → deviceStep (g .first) x ≡ masterStep (plain f phase b h false) (g .first .engine) (waits (g .first .registers .tx)) (getD (g .first .registers .tx) 0 0) (x .rxd)
+  unfolding deviceStep stepOf nextWord
+  first-step x =
+      let e = g .first .engine in
+      let m = g .first .registers in
+      ap₂ (λ (s : Settings) (w : Bool). stepOf s e (g .first .pins) x w (getD (m .tx) 0 0)) (P .master) (waits-on m first-on)
+      ∙ step-plain f phase p b h o e (waits (m .tx)) (getD (m .tx) 0 0) (x .rxd)
+
+  -- the slave's step, with the pins turned back
+  second-step : (x : Pins) → deviceStep (g .second) x
+      ≡ slaveStep (plain f phase b h true) (g .second .engine) (historyOf (turns f p) (g .second .pins) .oldest) (historyOf (turns f p) (g .second .pins) .middle) (getD (g .second .registers .tx) 0 0)
+  unfolding deviceStep stepOf nextWord
+  second-step x =
+      let e = g .second .engine in
+      let m = g .second .registers in
+      let q = turns f p in
+      let old = g .second .pins .oldest in
+      let mid = g .second .pins .middle in
+      ap (λ (s : Settings). stepOf s e (g .second .pins) x (waitingOf m) (getD (m .tx) 0 0)) (P .slave)
+      ∙ ap₂ (λ (u v : Pins). slaveStep (given f phase p b k true false) e u v (getD (m .tx) 0 0)) (sym (turn-pins-twice q old)) (sym (turn-pins-twice q mid))
+      ∙ slave-plain (P .serial) phase p b h k e (turnPins q old) (turnPins q mid) (getD (m .tx) 0 0)
+
+-- a device after a step R, as the exchange sees it
+abbrev stepped : Bool → List ℕ → DeviceModel → Settings → Step → Side
+stepped q l d s r =
+    record {
+      tx = pick (r .takes) (rest (d .registers .tx)) (d .registers .tx);
+      rx = pick (r .complete) (push (r .word) (rxOf (d .registers) l)) (rxOf (d .registers) l);
+      engine = endOf s (r .engine);
+      lines = turnLines q (linesOf s (r .engine));
+    }
+
+side-cycle : (q : Bool) (l : List ℕ) (d : DeviceModel) (x : Pins) (s : Settings) (r : Step) → settingsOf (d .registers .control) ≡ s → deviceStep d x ≡ r
+    → sideOf q (l ++ completedOf d x) (cycleOf d x) ≡ stepped q l d s r
+unfolding cycleOf completedOf
+side-cycle q l d x s r e a =
+    let m = d .registers in
+    ap₂ (λ (s : Settings) (r : Step). record {
+      tx = endedModel (completeModel (takenModel m (r .takes)) (r .complete) (r .word)) (endOf s (r .engine) .frame) .tx;
+      rx = rxOf (endedModel (completeModel (takenModel m (r .takes)) (r .complete) (r .word)) (endOf s (r .engine) .frame)) (l ++ pick (r .complete) (r .word ∷ []) []);
+      engine = endOf s (r .engine);
+      lines = turnLines q (linesOf s (r .engine));
+    }) e a
+    ∙ ap₂ (λ (t : List ℕ) (z : Receiver). record { tx = t; rx = z; engine = endOf s (r .engine); lines = turnLines q (linesOf s (r .engine)) })
+    (step-tx m (r .takes) (r .complete) (r .word) (endOf s (r .engine) .frame)) (step-rx m (r .takes) (r .complete) (r .word) (endOf s (r .engine) .frame) l)
+
+module _ {f : Format} {phase p : Bool} {b h k : ℕ} {o : Bool} (g : PairModel) (P : Paired f phase p b h k o g) (l j : List ℕ) where
+  first-side : sideOf (turns f p) (l ++ firstGets g) (pairCycle g .first) ≡ masterSide (plain f phase b h false) (sideOf (turns f p) l (g .first)) (wire (g .second .lines) .rxd)
+  unfolding pairCycle endOf linesOf masterSide acted
+  first-side =
+      let x = wire (g .second .lines) in
+      let s = given f phase p b h false o in
+      let r = masterStep (plain f phase b h false) (g .first .engine) (waits (g .first .registers .tx)) (getD (g .first .registers .tx) 0 0) (x .rxd) in
+      let y = sideOf (turns f p) l (g .first) in
+      side-cycle (turns f p) l (g .first) x s r (P .master) (first-step g P x)
+      ∙ ap₂ (λ (e : Engine) (z : Lines). withEngine (moved r y z) e) (end-plain f phase p b h o (r .engine))
+      (ap (turnLines (turns f p)) (lines-plain (P .serial) phase p b h o (r .engine)) ∙ turn-twice (turns f p) (masterLines (plain f phase b h false) (r .engine)))
+
+  second-side : sideOf false (j ++ secondGets g) (pairCycle g .second)
+      ≡ slaveSide (plain f phase b h true) (historyOf (turns f p) (g .second .pins) .oldest) (historyOf (turns f p) (g .second .pins) .middle) (sideOf false j (g .second))
+  unfolding pairCycle endOf linesOf slaveSide slaveLines slaveEnd
+  second-side =
+      let x = wire (g .first .lines) in
+      let s = given f phase p b k true false in
+      let q = turns f p in
+      let r = slaveStep (plain f phase b h true) (g .second .engine) (turnPins q (g .second .pins .oldest)) (turnPins q (g .second .pins .middle)) (getD (g .second .registers .tx) 0 0) in
+      side-cycle false j (g .second) x s r (P .slave) (second-step g P x)
+
+  -- a pair cycle, projected
+  pub commutes : coreOf (turns f p) (l ++ firstGets g) (j ++ secondGets g) (pairCycle g) ≡ coreCycle (plain f phase b h false) (plain f phase b h true) (coreOf (turns f p) l j g)
+  unfolding coreCycle wire pairCycle cycleOf
+  commutes =
+      ap₂ (λ (m s : Side). record { m = m; s = s; h = historyOf (turns f p) (pairCycle g .second .pins) }) first-side second-side

@@ -1,0 +1,97 @@
+-- A slave that sees no edge: it is still, and a cycle later nothing changes any more.
+use Prim.Native.Nat.{ℕ}
+use mathlib.Core.Path.{_≡_, refl, sym, ap, _∙_}
+use mathlib.Core.Bool.{Bool, true, false, _&&_, and-false}
+use lib.Dec.{leb}
+use lib.ListN.{getD}
+use Rattle.registers.specs.Choose.{pick}
+use Rattle.registers.specs.declared.settings.Format.{Format}
+use Rattle.registers.specs.declared.settings.Format.the-variants.{Motorola, Ti, Microwire, Reserved}
+use Rattle.registers.specs.declared.settings.Settings.{Settings}
+use Rattle.serial.specs.Engine.{cleared, still}
+use Rattle.serial.specs.Lines.{slaveLines}
+use Rattle.serial.specs.Slave.{slaveStep, slaveEnd, endedOn, afterTaking, motorolaSlave, motorolaSelect, motorolaEdges, motorolaClock, captureEdge, driveEdge, tiSlave}
+use Rattle.serial.proofs.Exchange.Core.{Side, withEngine, moved, plain, slaveSide}
+use Rattle.serial.proofs.Exchange.Settle.{Lawful}
+use Rattle.serial.specs.declared.engine.Engine.{Engine}
+use Rattle.serial.specs.declared.engine.Step.{Step}
+use Rattle.serial.specs.declared.lines.Pins.{Pins}
+
+ended-frame : (f : Format) (e : Engine) → endedOn f e .frame ≡ false
+ended-frame Motorola e = refl
+ended-frame Ti e = refl
+ended-frame Microwire e = refl
+ended-frame Reserved e = refl
+
+-- what has ended stays ended
+ended-twice : (s : Settings) (e : Engine) → slaveEnd s (slaveEnd s e) ≡ slaveEnd s e
+unfolding slaveEnd
+ended-twice s e = go (e .frame && leb (s .bits) (e .shift .captured)) refl
+  where
+    go : (t : Bool) → (e .frame && leb (s .bits) (e .shift .captured)) ≡ t
+        → pick (pick t (endedOn (s .format) e) e .frame && leb (s .bits) (pick t (endedOn (s .format) e) e .shift .captured)) (endedOn (s .format) (pick t (endedOn (s .format) e) e)) (pick t (endedOn (s .format) e) e)
+        ≡ pick t (endedOn (s .format) e) e
+    go true h = ap (λ (u : Bool). pick (u && leb (s .bits) (endedOn (s .format) e .shift .captured)) (endedOn (s .format) (endedOn (s .format) e)) (endedOn (s .format) e)) (ended-frame (s .format) e)
+    go false h = ap (λ (u : Bool). pick u (endedOn (s .format) e) e) h
+
+-- a cycle without an edge
+abbrev calm : Settings → Side → Side
+calm s x = record { tx = x .tx; rx = x .rx; engine = slaveEnd s (x .engine); lines = slaveLines s (x .engine) }
+
+abbrev pub after : Settings → Side → Step → Side
+after s x r = withEngine (moved r x (slaveLines s (r .engine))) (slaveEnd s (r .engine))
+
+pub side-after : (s : Settings) (p q : Pins) (x : Side) (r : Step) → slaveStep s (x .engine) p q (getD (x .tx) 0 0) ≡ r → slaveSide s p q x ≡ after s x r
+unfolding slaveSide
+side-after s p q x r h = ap (after s x) h
+
+-- a slave that is still whenever it sees p twice comes to rest
+still-idem : (s : Settings) (p : Pins) → ((e : Engine) (n : ℕ) → slaveStep s e p p n ≡ still e)
+    → (q r : Pins) (x : Side) → slaveSide s p p (slaveSide s p p (slaveSide s q r x)) ≡ slaveSide s p p (slaveSide s q r x)
+unfolding slaveSide
+still-idem s p h q r x =
+    let y = slaveSide s q r x in
+    let fixed : slaveEnd s (y .engine) ≡ y .engine = ended-twice s (slaveStep s (x .engine) q r (getD (x .tx) 0 0) .engine) in
+    let once : slaveSide s p p y ≡ withEngine (calm s y) (y .engine) = side-after s p p y (still (y .engine)) (h (y .engine) _) ∙ ap (withEngine (calm s y)) fixed in
+    ap (slaveSide s p p) once ∙ side-after s p p (withEngine (calm s y) (y .engine)) (still (y .engine)) (h (y .engine) _) ∙ ap (withEngine (calm s y)) fixed ∙ sym once
+
+pick-both : {A : Type 0} (t : Bool) (x y z : A) → x ≡ z → y ≡ z → pick t x y ≡ z
+pick-both true x y z p q = p
+pick-both false x y z p q = q
+
+clock-quiet : (s : Settings) (e : Engine) (n : ℕ) (d : Bool) → motorolaClock s e false false n d ≡ still e
+unfolding motorolaClock
+clock-quiet s e n d = rw (and-false (e .frame))
+
+-- Motorola with FSS LOW
+pub quiet-low : (phase : Bool) (b h : ℕ) (c d d′ : Bool) (e : Engine) (n : ℕ) → slaveStep (plain Motorola phase b h true) e (record { clk = c; fss = false; rxd = d }) (record { clk = c; fss = false; rxd = d′ }) n ≡ still e
+unfolding slaveStep motorolaSlave motorolaSelect motorolaEdges captureEdge driveEdge
+quiet-low true b h true d d′ e n = pick-both (e .selected) _ _ _ (ap (afterTaking false) (clock-quiet (plain Motorola true b h true) e n _)) refl
+quiet-low true b h false d d′ e n = pick-both (e .selected) _ _ _ (ap (afterTaking false) (clock-quiet (plain Motorola true b h true) e n _)) refl
+quiet-low false b h true d d′ e n = pick-both (e .selected) _ _ _ (ap (afterTaking false) (clock-quiet (plain Motorola false b h true) e n _)) refl
+quiet-low false b h false d d′ e n = pick-both (e .selected) _ _ _ (ap (afterTaking false) (clock-quiet (plain Motorola false b h true) e n _)) refl
+
+-- with FSS HIGH the engine is clear at once
+high-idem : (phase : Bool) (b h : ℕ) (c d : Bool) (q r : Pins) (x : Side)
+    → slaveSide (plain Motorola phase b h true) (record { clk = c; fss = true; rxd = d }) (record { clk = c; fss = true; rxd = d }) (slaveSide (plain Motorola phase b h true) (record { clk = c; fss = true; rxd = d }) (record { clk = c; fss = true; rxd = d }) (slaveSide (plain Motorola phase b h true) q r x))
+    ≡ slaveSide (plain Motorola phase b h true) (record { clk = c; fss = true; rxd = d }) (record { clk = c; fss = true; rxd = d }) (slaveSide (plain Motorola phase b h true) q r x)
+unfolding slaveSide slaveStep motorolaSlave
+high-idem phase b h c d q r x = refl
+
+pub lawful-motorola : (phase : Bool) (b h : ℕ) → Lawful (plain Motorola phase b h true)
+lawful-motorola phase b h = record { idem = λ p q r x. go (p .clk) (p .fss) (p .rxd) q r x }
+  where
+    go : (c f d : Bool) (q r : Pins) (x : Side)
+        → slaveSide (plain Motorola phase b h true) (record { clk = c; fss = f; rxd = d }) (record { clk = c; fss = f; rxd = d }) (slaveSide (plain Motorola phase b h true) (record { clk = c; fss = f; rxd = d }) (record { clk = c; fss = f; rxd = d }) (slaveSide (plain Motorola phase b h true) q r x))
+        ≡ slaveSide (plain Motorola phase b h true) (record { clk = c; fss = f; rxd = d }) (record { clk = c; fss = f; rxd = d }) (slaveSide (plain Motorola phase b h true) q r x)
+    go c true d q r x = high-idem phase b h c d q r x
+    go c false d q r x = still-idem (plain Motorola phase b h true) (record { clk = c; fss = false; rxd = d }) (λ e n. quiet-low phase b h c d d e n) q r x
+
+-- TI
+pub quiet-ti : (phase : Bool) (b h : ℕ) (c f d f′ d′ : Bool) (e : Engine) (n : ℕ) → slaveStep (plain Ti phase b h true) e (record { clk = c; fss = f; rxd = d }) (record { clk = c; fss = f′; rxd = d′ }) n ≡ still e
+unfolding slaveStep tiSlave
+quiet-ti phase b h true f d f′ d′ e n = refl
+quiet-ti phase b h false f d f′ d′ e n = refl
+
+pub lawful-ti : (phase : Bool) (b h : ℕ) → Lawful (plain Ti phase b h true)
+lawful-ti phase b h = record { idem = λ p q r x. still-idem (plain Ti phase b h true) p (λ e n. quiet-ti phase b h (p .clk) (p .fss) (p .rxd) (p .fss) (p .rxd) e n) q r x }
