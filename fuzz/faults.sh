@@ -32,6 +32,8 @@ read of RIS changes the record
 read looks at the byte behind the record
 read looks at the byte before the record
 read cuts the length to 32 bits
+read of SR gives another flag
+read of MIS gives another interrupt
 write changes the record though refused
 write loses a bit of IMSC
 write answers 9 for a sound record
