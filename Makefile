@@ -70,9 +70,12 @@ install: lib
 	ln -sf $(SONAME) $(libraries)/libpl022.so
 	printf '%s\n' "$$PKG_CONFIG_FILE" > $(libraries)/pkgconfig/pl022.pc
 
-target/staticlib/libpl022.a: crates.txt $(shell find crates -name '*.rt' -o -name '*.antt')
+# Only the archive that nobody named is built here.
+ifeq ($(origin PL022_ARCHIVE) $(origin LIBRARY),file file)
+$(LIBRARY): crates.txt $(shell find crates -name '*.rt' -o -name '*.antt')
 	rt staticlib pl022
 	@touch $@
+endif
 
 # Scripts below use the same archive and folder.
 export BUILD

@@ -27,4 +27,4 @@ if [ "$(id -u)" -eq 0 ] && has apt-get; then
         quietly apt-get install -y "$package" || true
     fi
 fi
-has "$program"
+has "$program" || exit 1

@@ -29,11 +29,6 @@ fail() {
     exit 1
 }
 
-# The archive by its full path: make has no rule for it then.
-case $archive in
-/*) ;;
-*) archive=$(pwd)/$archive ;;
-esac
 put() { # ARGUMENTS of make
     make -s BUILD="$dir/build" LIBRARY="$archive" "$@" install
 }
