@@ -9,8 +9,8 @@ fn main() {
         return;
     }
     let dir = env::var("PL022_ARCHIVE_DIR")
-        .expect("feature `library` needs PL022_ARCHIVE_DIR, the folder that holds libserial.a");
-    println!("cargo:rerun-if-changed={dir}/libserial.a");
+        .expect("feature `library` needs PL022_ARCHIVE_DIR, the folder that holds libpl022.a");
+    println!("cargo:rerun-if-changed={dir}/libpl022.a");
     println!("cargo:rustc-link-search=native={dir}");
-    println!("cargo:rustc-link-lib=static=serial");
+    println!("cargo:rustc-link-lib=static=pl022");
 }

@@ -1,7 +1,13 @@
 #!/bin/sh
-# Tests the second program, builds the proved library, then compares the two call
-# by call. Ends with one line of counts; any difference gives a status other than 0.
+# Tests the second program, then compares the proved library with it call by call.
+# Ends with one line of counts; any difference gives a status other than 0.
 # usage: run.sh
+#
+#   PL022_ARCHIVE     the library, a file libpl022.a that must be there;
+#                     target/staticlib/libpl022.a if not set
+#   CARGO_TARGET_DIR  the folder for all that is built, compare/target if not set
+#
+# Both count from the top folder.
 set -eu
 
 SEED=225eed
@@ -13,28 +19,30 @@ if [ $# -ne 0 ]; then
     echo "usage: run.sh" >&2
     exit 2
 fi
-for tool in rt cargo; do
-    if ! command -v "$tool" > /dev/null; then
-        echo "run: $tool is not in the path" >&2
-        exit 2
-    fi
-done
+if ! command -v cargo > /dev/null; then
+    echo "run: cargo is not in the path" >&2
+    exit 2
+fi
 
 here=$(cd "$(dirname "$0")" && pwd)
-top=$(dirname "$here")
-archive_dir=$top/target/staticlib
+cd "$here/.."
+archive=${PL022_ARCHIVE:-target/staticlib/libpl022.a}
+if [ ! -f "$archive" ]; then
+    echo "run: no archive $archive; rt staticlib pl022 builds it" >&2
+    exit 2
+fi
+PL022_ARCHIVE_DIR=$(cd "$(dirname "$archive")" && pwd)
 CARGO_TARGET_DIR=${CARGO_TARGET_DIR:-$here/target}
-export CARGO_TARGET_DIR
+export CARGO_TARGET_DIR PL022_ARCHIVE_DIR
 
 cargo test --quiet --offline --locked --release --manifest-path "$here/Cargo.toml"
 
-(cd "$top" && rt staticlib serial)
-PL022_ARCHIVE_DIR=$archive_dir cargo build --quiet --offline --locked --release \
-    --manifest-path "$here/Cargo.toml" --features library --bin compare
+cargo build --quiet --offline --locked --release --manifest-path "$here/Cargo.toml" \
+    --features library --bin compare
 compare=$CARGO_TARGET_DIR/release/compare
 
 # The second program on the vectors, then the library beside it.
-vectors=$top/../shared/vectors
+vectors=../shared/vectors
 if [ -d "$vectors" ]; then
     "$here/vectors.sh" "$vectors"
     for script in "$vectors"/*.in; do

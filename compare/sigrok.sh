@@ -3,13 +3,20 @@
 # proved library, and compares the words it finds with those that the scripts wrote
 # and with the answers of DR. Every SPO, SPH and size; a master wired to a slave, the
 # same with the slave's output off, and a master alone.
-# usage: sigrok.sh [TOOL [CASE ...]]      TOOL: ../target/pl022; CASE: say pair-0-1-8
+# usage: sigrok.sh [TOOL [CASE ...]]      CASE: say pair-0-1-8
+#
+# TOOL is pl022 in the folder BUILD if not given, and BUILD is target if not set; it counts
+# from the top folder.
 set -eu
 
 SEED=22563
 
 here=$(cd "$(dirname "$0")" && pwd)
-tool=${1:-$(dirname "$here")/target/pl022}
+case ${BUILD:=target} in
+    /*) ;;
+    *) BUILD=$(dirname "$here")/$BUILD ;;
+esac
+tool=${1:-$BUILD/pl022}
 [ $# -eq 0 ] || shift
 chosen=$*
 
@@ -18,29 +25,7 @@ if [ ! -x "$tool" ]; then
     exit 2
 fi
 
-has() {
-    command -v "$1" > /dev/null
-}
-
-quietly() {
-    timeout 90 "$@" < /dev/null > /dev/null 2>&1
-}
-
-install_sigrok() {
-    if [ "$(id -u)" -ne 0 ] || ! has apt-get; then
-        return
-    fi
-    echo "sigrok: installing sigrok-cli"
-    export DEBIAN_FRONTEND=noninteractive
-    if ! quietly apt-get install -y sigrok-cli; then
-        # The lists may be old or missing.
-        quietly apt-get update || true
-        quietly apt-get install -y sigrok-cli || true
-    fi
-}
-
-has sigrok-cli || install_sigrok
-if ! has sigrok-cli; then
+if ! "$here/need.sh" sigrok-cli sigrok-cli; then
     echo "sigrok: SKIPPED, sigrok-cli is not installed"
     exit 0
 fi

@@ -1,7 +1,7 @@
 #!/bin/sh
 # Shows that sigrok.sh can fail: it gets recordings or answers with one fault each and
 # must notice every fault in every recording it is given.
-# usage: sigrok_faults.sh [TOOL]          TOOL: ../target/pl022
+# usage: sigrok_faults.sh [TOOL]          TOOL as in sigrok.sh
 # Called by sigrok.sh with --vcd FILE SCRIPT it is the tool with the fault $FAULT.
 set -eu
 
@@ -84,7 +84,11 @@ if [ "${1:-}" = --vcd ]; then
     exit
 fi
 
-PL022_TOOL=${1:-$(dirname "$here")/target/pl022}
+case ${BUILD:=target} in
+    /*) ;;
+    *) BUILD=$(dirname "$here")/$BUILD ;;
+esac
+PL022_TOOL=${1:-$BUILD/pl022}
 export PL022_TOOL
 
 # Runs the test with a tool; its last line must end as given.

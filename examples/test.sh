@@ -1,6 +1,11 @@
 #!/bin/sh
-# Builds the C programs with sanitizers and tests them; the archive must be there.
+# Builds the C programs with sanitizers and tests them, then what make install puts down.
 # usage: test.sh PROGRAM, which answers the tool's scripts as an independent second program does
+#
+#   PL022_ARCHIVE  the archive, which must be there; target/staticlib/libpl022.a if not set
+#   BUILD          the folder for all that is built, target if not set
+#
+# Both count from the top folder.
 set -eu
 
 if [ $# -ne 1 ]; then
@@ -9,13 +14,18 @@ if [ $# -ne 1 ]; then
 fi
 second=$(cd "$(dirname "$1")" && pwd)/$(basename "$1")
 cd "$(dirname "$0")/.."
-built=target/examples
+archive=${PL022_ARCHIVE:-target/staticlib/libpl022.a}
+built=${BUILD:-target}/examples
+if [ ! -f "$archive" ]; then
+    echo "examples: no archive $archive; rt staticlib pl022 builds it" >&2
+    exit 2
+fi
 mkdir -p "$built"
 
 build() {
     cc -std=c11 -D_POSIX_C_SOURCE=200809L -Wall -Wextra -Wpedantic -Wconversion -Wshadow -Werror \
         -g -O1 -fsanitize=address,undefined -fno-sanitize-recover=all -Iinclude \
-        -o "$built/$1" "$2"/*.c target/staticlib/libserial.a
+        -o "$built/$1" "$2"/*.c "$archive"
 }
 
 # The page shows the program as it is.
@@ -37,3 +47,4 @@ echo "board: $(tail -n 1 "$built/board.out")"
 
 build pl022 examples/tool
 examples/tool/test.sh "$built/pl022" "$second"
+examples/install.sh

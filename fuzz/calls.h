@@ -17,13 +17,6 @@ enum role { ROLE_RECORD, ROLE_SECOND, ROLE_INPUT, ROLE_OUTPUT, ROLES };
 
 enum { LENT_LIMIT = 12288, REFUSALS = PL022_BAD_INPUT + 1 };
 
-/* The end of the register space. */
-enum { SPACE_END = 0x1000 };
-
-/* Register bits. */
-enum { CR1_LBM = 1, CR1_SSE = 2, CR1_MS = 4, CR1_SOD = 8 };
-enum { SR_TNF = 2, SR_RNE = 4, SR_BSY = 16 };
-
 struct bytes {
     size_t length;
     uint8_t data[LENT_LIMIT];

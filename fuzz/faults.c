@@ -20,7 +20,7 @@ uint32_t __real_pl022_pair_run(uint8_t *, size_t, uint8_t *, size_t, uint64_t);
 enum {
     RESET_LEAVES_A_BYTE = 1, RESET_TAKES_127,
     READ_WORD_WITH_REFUSAL, READ_CHANGES_RECORD, READ_LOOKS_BEHIND, READ_LOOKS_BEFORE,
-    READ_CUTS_LENGTH,
+    READ_CUTS_LENGTH, READ_OTHER_FLAG, READ_OTHER_INTERRUPT,
     WRITE_CHANGES_ON_REFUSAL, WRITE_LOSES_A_BIT, WRITE_UNSOUND_FOR_SOUND, WRITE_SWAPS_ORDER,
     WRITE_LEAVES_UNSOUND,
     RUN_WRITES_BEHIND, RUN_WRITES_BEFORE, RUN_LOOKS_BEHIND, RUN_LOOKS_AT_NOTHING,
@@ -61,7 +61,7 @@ static void look(const uint8_t *byte)
 
 uint32_t __wrap_pl022_reset(uint8_t *record, size_t record_len)
 {
-    if (due(RESET_TAKES_127, record_len == 127)) {
+    if (due(RESET_TAKES_127, record_len == PL022_RECORD_LENGTH - 1)) {
         return PL022_DONE;
     }
     uint8_t first = record_len > 0 ? record[0] : 0;
@@ -87,8 +87,14 @@ struct pl022_word __wrap_pl022_read(uint8_t *record, size_t record_len, uint32_t
     if (due(READ_WORD_WITH_REFUSAL, answer.refusal != PL022_DONE)) {
         answer.word = 1;
     }
-    if (due(READ_CHANGES_RECORD, answer.refusal == PL022_DONE && offset == 0x18)) {
-        record[7] ^= 1;
+    if (due(READ_CHANGES_RECORD, answer.refusal == PL022_DONE && offset == PL022_RIS)) {
+        record[PL022_RECORD_RT] ^= 1;
+    }
+    if (due(READ_OTHER_FLAG, answer.refusal == PL022_DONE && offset == PL022_SR)) {
+        answer.word ^= PL022_SR_RFF;
+    }
+    if (due(READ_OTHER_INTERRUPT, answer.refusal == PL022_DONE && offset == PL022_MIS)) {
+        answer.word ^= PL022_INT_RX;
     }
     return answer;
 }
@@ -104,13 +110,15 @@ uint32_t __wrap_pl022_write(uint8_t *record, size_t record_len, uint32_t offset,
     }
     uint32_t refusal = __real_pl022_write(record, record_len, offset, value);
     if (due(WRITE_CHANGES_ON_REFUSAL, refusal == PL022_QUEUE_FULL)) {
-        record[46] ^= 1;
+        record[PL022_RECORD_TX_QUEUE + 2 * (PL022_QUEUE_WORDS - 1)] ^= 1;
     }
-    if (due(WRITE_LOSES_A_BIT, refusal == PL022_DONE && offset == 0x14 && value > 7)) {
-        record[4] &= 7;
+    if (due(WRITE_LOSES_A_BIT, refusal == PL022_DONE && offset == PL022_IMSC
+            && (value & PL022_INT_TX) != 0)) {
+        record[PL022_RECORD_IMSC] ^= PL022_INT_TX;
     }
-    if (due(WRITE_LEAVES_UNSOUND, refusal == PL022_DONE && offset == 0x04 && value % 4 < 2)) {
-        record[16] = 1;
+    if (due(WRITE_LEAVES_UNSOUND, refusal == PL022_DONE && offset == PL022_CR1
+            && (value & PL022_CR1_SSE) == 0)) {
+        record[PL022_RECORD_SLOT] = 1;
     }
     return refusal;
 }
@@ -129,15 +137,15 @@ static void spoil_run(uint8_t *record, const uint8_t *input, uint8_t *output, si
         ((uint8_t *)(uintptr_t)input)[0] ^= 1;
     }
     if (due(RUN_HIGH_OUTPUT, true)) {
-        output[length / 2] |= 16;
+        output[length / 2] |= PL022_OUTPUT_MASK + 1;
     }
     if (due(RUN_HIDDEN_STATE, true)) {
-        record[22] ^= 1;
+        record[PL022_RECORD_RX_WORD] ^= 1;
     }
     if (chosen(RUN_LENGTH_MATTERS) && length % 64 == 63) {
-        record[22] ^= 1;
+        record[PL022_RECORD_RX_WORD] ^= 1;
     }
-    if (due(RUN_SKIPS_OUTPUT, old < 16)) {
+    if (due(RUN_SKIPS_OUTPUT, old <= PL022_OUTPUT_MASK)) {
         output[length - 1] = old;
     }
 }
@@ -199,10 +207,10 @@ uint32_t __wrap_pl022_pair_run(uint8_t *first, size_t first_len,
         second[second_len] = 0;
     }
     if (chosen(PAIR_CYCLES_MATTER) && refusal == PL022_DONE && cycles % 64 == 63) {
-        second[22] ^= 1;
+        second[PL022_RECORD_RX_WORD] ^= 1;
     }
     if (due(PAIR_CHANGES_ON_REFUSAL, refusal == PL022_UNSOUND)) {
-        second[24] ^= 1;
+        second[PL022_RECORD_PINS] ^= 1;
     }
     if (due(PAIR_SERVES_UNSOUND, refusal == PL022_UNSOUND)) {
         return PL022_DONE;

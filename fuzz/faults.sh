@@ -1,13 +1,15 @@
 #!/bin/sh
 # Shows that the fuzz test notices faults: puts them between it and the library, one at a
-# time, and demands that each is reported. Status 0: all were.
+# time, and demands that each is reported. Status 0: all were. PL022_ARCHIVE and BUILD as
+# in run.sh.
 set -eu
 
 cd "$(dirname "$0")/.."
-mkdir -p target/fuzz
+built=${BUILD:-target}/fuzz
+mkdir -p "$built"
 cc -std=c11 -Wall -Wextra -Wpedantic -Wconversion -Wshadow -Werror -g -O1 -Iinclude \
-    -c -o target/fuzz/faults.o fuzz/faults.c
-sh fuzz/build.sh with-faults target/fuzz/faults.o \
+    -c -o "$built/faults.o" fuzz/faults.c
+fuzz/build.sh "$built/with-faults" "$built/faults.o" \
     -Wl,--wrap=pl022_reset,--wrap=pl022_read,--wrap=pl022_write \
     -Wl,--wrap=pl022_run,--wrap=pl022_run_to_idle,--wrap=pl022_pair_run
 
@@ -15,12 +17,12 @@ number=0
 missed=0
 while read -r fault; do
     number=$((number + 1))
-    if FUZZ_FAULT=$number target/fuzz/with-faults "${FUZZ_SEED:-22}" 5 \
-        >target/fuzz/faults.out 2>target/fuzz/faults.err; then
+    if FUZZ_FAULT=$number "$built/with-faults" "${FUZZ_SEED:-22}" 5 \
+        >"$built/faults.out" 2>"$built/faults.err"; then
         notice=MISSED
         missed=$((missed + 1))
     else
-        notice=$(grep -m 1 -e FAILED -e ERROR target/fuzz/faults.err || echo "MISSED, other end")
+        notice=$(grep -m 1 -e FAILED -e ERROR "$built/faults.err" || echo "MISSED, other end")
         case $notice in MISSED*) missed=$((missed + 1)) ;; esac
     fi
     printf '%2d %-45s %s\n' "$number" "$fault" "$notice"
@@ -32,6 +34,8 @@ read of RIS changes the record
 read looks at the byte behind the record
 read looks at the byte before the record
 read cuts the length to 32 bits
+read of SR gives another flag
+read of MIS gives another interrupt
 write changes the record though refused
 write loses a bit of IMSC
 write answers 9 for a sound record

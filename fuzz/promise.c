@@ -45,7 +45,7 @@ bool library_serves(const uint8_t *record)
 /* Refusals 1 to 3: those that follow from the offset. */
 static uint32_t refusal_by_offset(uint32_t offset, bool write)
 {
-    if (offset % 4 != 0 || offset >= SPACE_END) {
+    if (offset % 4 != 0 || offset >= PL022_SPACE_LENGTH) {
         return PL022_BAD_OFFSET;
     }
     if (offset > PL022_DMACR && offset < PL022_IDENTITY) {
@@ -60,7 +60,8 @@ static uint32_t refusal_by_offset(uint32_t offset, bool write)
 static uint32_t read_refusal(const struct request *request, const uint8_t *record)
 {
     uint32_t refusal = refusal_by_offset(request->offset, false);
-    if (refusal == PL022_DONE && request->offset == PL022_DR && (word_of(record, PL022_SR) & SR_RNE) == 0) {
+    if (refusal == PL022_DONE && request->offset == PL022_DR
+        && (word_of(record, PL022_SR) & PL022_SR_RNE) == 0) {
         return PL022_QUEUE_EMPTY;
     }
     return refusal;
@@ -72,7 +73,7 @@ static uint32_t refusal_by_state(const struct request *request, const uint8_t *r
     uint32_t value = request->value;
     uint32_t cr0 = word_of(record, PL022_CR0);
     uint32_t cr1 = word_of(record, PL022_CR1);
-    bool enabled = (cr1 & CR1_SSE) != 0;
+    bool enabled = (cr1 & PL022_CR1_SSE) != 0;
 
     switch (request->offset) {
     case PL022_CR0:
@@ -81,13 +82,14 @@ static uint32_t refusal_by_state(const struct request *request, const uint8_t *r
     case PL022_CPSR:
         return enabled ? PL022_WHILE_ENABLED : PL022_DONE;
     case PL022_CR1:
-        if (enabled && ((value ^ cr1) & (CR1_MS | CR1_LBM)) != 0) {
+        if (enabled && ((value ^ cr1) & (PL022_CR1_MS | PL022_CR1_LBM)) != 0) {
             return PL022_WHILE_ENABLED;
         }
-        return (value & CR1_SSE) != 0 && !(cr0_permitted(cr0) && word_of(record, PL022_CPSR) != 0)
+        return (value & PL022_CR1_SSE) != 0
+                       && !(cr0_permitted(cr0) && word_of(record, PL022_CPSR) != 0)
              ? PL022_NOT_PERMITTED : PL022_DONE;
     case PL022_DR:
-        return (word_of(record, PL022_SR) & SR_TNF) == 0 ? PL022_QUEUE_FULL : PL022_DONE;
+        return (word_of(record, PL022_SR) & PL022_SR_TNF) == 0 ? PL022_QUEUE_FULL : PL022_DONE;
     default:
         return PL022_DONE;
     }
@@ -176,7 +178,8 @@ static void check_read(const struct request *request, const struct outcome *outc
         check_unchanged(request, outcome, ROLE_RECORD,
                         "a read other than of DR changed the record");
     }
-    report_unless(outcome->result <= 0xFFFF, "a word has more than 16 bits");
+    report_unless(outcome->result == record_word(request->lent[ROLE_RECORD].data, request->offset),
+                  "a register reads other than the record's fields say");
 }
 
 static void check_write(const struct request *request, const struct outcome *outcome)
@@ -224,8 +227,8 @@ static void check_run(const struct request *request, const struct outcome *outco
 
 static void check_run_to_idle(const struct request *request, const struct outcome *outcome)
 {
-    bool was_busy = (word_of(request->lent[ROLE_RECORD].data, PL022_SR) & SR_BSY) != 0;
-    bool is_busy = (word_of(outcome->after[ROLE_RECORD].data, PL022_SR) & SR_BSY) != 0;
+    bool was_busy = (word_of(request->lent[ROLE_RECORD].data, PL022_SR) & PL022_SR_BSY) != 0;
+    bool is_busy = (word_of(outcome->after[ROLE_RECORD].data, PL022_SR) & PL022_SR_BSY) != 0;
 
     check_run(request, outcome);
     report_unless(was_busy || outcome->result == 0, "a run to idle ran an idle device");
@@ -239,6 +242,9 @@ static void check_reset(const struct outcome *outcome)
     record_after_reset(reset);
     report_unless(memcmp(outcome->after[ROLE_RECORD].data, reset, sizeof reset) == 0,
                   "reset left another record");
+    report_unless(word_of(reset, PL022_SR) == PL022_SR_RESET
+                  && word_of(reset, PL022_RIS) == PL022_RIS_RESET,
+                  "SR or RIS reads otherwise after reset");
 }
 
 static void check_done(const struct request *request, const struct outcome *outcome)

@@ -3,10 +3,7 @@
 #include <stddef.h>
 #include <string.h>
 
-#include "calls.h"
 #include "draw.h"
-
-enum { AT_TO_SEND = 28, AT_SEND_QUEUE = 32, AT_RECEIVE_QUEUE = 48, PLACES = 8, AT_SPARE = 64 };
 
 /* Fields that a number bounds. CR0 and CPSR follow other rules. */
 enum limit { LIMIT_FIXED, LIMIT_RT_COUNT, LIMIT_SLOT, LIMIT_CYCLES, LIMIT_CAPTURED, LIMIT_ENABLED };
@@ -17,28 +14,28 @@ static const struct field {
     uint8_t limit;
     uint16_t most;
 } fields[] = {
-    {AT_CR1, 1, LIMIT_FIXED, 15},
-    {4, 1, LIMIT_FIXED, 15},             /* IMSC */
-    {5, 1, LIMIT_FIXED, 3},              /* DMACR */
-    {6, 1, LIMIT_FIXED, 1},              /* ROR */
-    {7, 1, LIMIT_FIXED, 1},              /* RT */
-    {8, 4, LIMIT_RT_COUNT, 0},
-    {12, 1, LIMIT_ENABLED, 1},           /* frame */
-    {13, 1, LIMIT_ENABLED, 1},           /* selected */
-    {14, 1, LIMIT_ENABLED, 1},           /* TI mark */
-    {15, 1, LIMIT_CAPTURED, 0},
-    {16, 1, LIMIT_SLOT, 0},
-    {17, 1, LIMIT_FIXED, 1},             /* held level */
-    {18, 2, LIMIT_CYCLES, 0},
-    {20, 2, LIMIT_FIXED, 0xFFFF},        /* word being sent */
-    {22, 2, LIMIT_FIXED, 0xFFFF},        /* word being received */
+    {PL022_RECORD_CR1, 1, LIMIT_FIXED, 15},
+    {PL022_RECORD_IMSC, 1, LIMIT_FIXED, 15},
+    {PL022_RECORD_DMACR, 1, LIMIT_FIXED, 3},
+    {PL022_RECORD_ROR, 1, LIMIT_FIXED, 1},
+    {PL022_RECORD_RT, 1, LIMIT_FIXED, 1},
+    {PL022_RECORD_RT_COUNT, 4, LIMIT_RT_COUNT, 0},
+    {PL022_RECORD_FRAME, 1, LIMIT_ENABLED, 1},
+    {PL022_RECORD_SELECTED, 1, LIMIT_ENABLED, 1},
+    {PL022_RECORD_TI_MARK, 1, LIMIT_ENABLED, 1},
+    {PL022_RECORD_CAPTURED, 1, LIMIT_CAPTURED, 0},
+    {PL022_RECORD_SLOT, 1, LIMIT_SLOT, 0},
+    {PL022_RECORD_HELD, 1, LIMIT_FIXED, 1},
+    {PL022_RECORD_SLOT_CYCLES, 2, LIMIT_CYCLES, 0},
+    {PL022_RECORD_TX_WORD, 2, LIMIT_FIXED, 0xFFFF},
+    {PL022_RECORD_RX_WORD, 2, LIMIT_FIXED, 0xFFFF},
     {PL022_RECORD_PINS, 1, LIMIT_FIXED, 7},
-    {PL022_RECORD_PINS + 1, 1, LIMIT_FIXED, 7},
-    {PL022_RECORD_PINS + 2, 1, LIMIT_FIXED, 7},
+    {PL022_RECORD_PINS_1, 1, LIMIT_FIXED, 7},
+    {PL022_RECORD_PINS_2, 1, LIMIT_FIXED, 7},
     {PL022_RECORD_LINES, 1, LIMIT_FIXED, 15},
-    {AT_TO_SEND, 1, LIMIT_FIXED, PLACES},
-    {AT_RECEIVED, 1, LIMIT_FIXED, PLACES},
-    {30, 2, LIMIT_FIXED, 0},             /* spare */
+    {PL022_RECORD_TX_COUNT, 1, LIMIT_FIXED, PL022_QUEUE_WORDS},
+    {PL022_RECORD_RX_COUNT, 1, LIMIT_FIXED, PL022_QUEUE_WORDS},
+    {PL022_RECORD_SPARE_1, 2, LIMIT_FIXED, 0},
 };
 
 enum { FIELDS = sizeof fields / sizeof fields[0] };
@@ -59,44 +56,70 @@ static void set(uint8_t *record, size_t at, size_t size, uint32_t value)
     }
 }
 
+static uint32_t record_cr0(const uint8_t *record)
+{
+    return get(record, PL022_RECORD_CR0, 2);
+}
+
+static uint32_t frf_of(uint32_t cr0)
+{
+    return (cr0 & PL022_CR0_FRF_MASK) >> PL022_CR0_FRF_SHIFT;
+}
+
+static uint32_t dss_of(uint32_t cr0)
+{
+    return (cr0 & PL022_CR0_DSS_MASK) >> PL022_CR0_DSS_SHIFT;
+}
+
+static uint32_t scr_of(uint32_t cr0)
+{
+    return (cr0 & PL022_CR0_SCR_MASK) >> PL022_CR0_SCR_SHIFT;
+}
+
 unsigned record_format(const uint8_t *record)
 {
-    return record[AT_CR0] >> 4 & 3U;
+    return frf_of(record_cr0(record));
 }
 
 unsigned record_dss(const uint8_t *record)
 {
-    return record[AT_CR0] & 15U;
+    return dss_of(record_cr0(record));
 }
 
 bool cr0_permitted(uint32_t cr0)
 {
-    return (cr0 >> 4 & 3U) < FORMATS && (cr0 & 15U) >= LEAST_DSS;
+    return frf_of(cr0) < FORMATS && dss_of(cr0) >= LEAST_DSS;
 }
 
 uint32_t draw_cr0(uint32_t scr)
 {
-    uint32_t sph_spo = draw_below(4);
-    uint32_t frf = draw_below(FORMATS);
-    return scr << 8 | sph_spo << 6 | frf << 4 | draw_between(LEAST_DSS, 15);
+    static const uint32_t modes[] = {0, PL022_CR0_SPO, PL022_CR0_SPH,
+                                     PL022_CR0_SPO | PL022_CR0_SPH};
+    static const uint32_t formats[FORMATS] = {PL022_CR0_FRF_MOTOROLA, PL022_CR0_FRF_TI,
+                                              PL022_CR0_FRF_MICROWIRE};
+    uint32_t mode = modes[draw_below(sizeof modes / sizeof modes[0])];
+    uint32_t format = formats[draw_below(FORMATS)];
+    return scr << PL022_CR0_SCR_SHIFT | mode | format
+         | draw_between(LEAST_DSS, 15) << PL022_CR0_DSS_SHIFT;
 }
 
 /* Cycles in a slot. */
 static uint32_t record_h(const uint8_t *record)
 {
-    return record[AT_CPSR] / 2U * (1U + record[AT_CR0 + 1]);
+    return record[PL022_RECORD_CPSR] / 2U * (1U + scr_of(record_cr0(record)));
 }
 
 /* The most that the field may hold beside the record's CR0, CR1 and CPSR. */
 static uint32_t most(const uint8_t *record, const struct field *field)
 {
+    /* By FRF; 3 is reserved. */
     static const uint8_t behind_bits[FORMATS + 1] = {3, 1, 20, 0};
     uint32_t bits = record_dss(record) + 1;
 
     if (field->limit == LIMIT_FIXED) {
         return field->most;
     }
-    if ((record[AT_CR1] & CR1_SSE) == 0) {
+    if ((record[PL022_RECORD_CR1] & PL022_CR1_SSE) == 0) {
         return 0;
     }
     switch (field->limit) {
@@ -123,12 +146,12 @@ static bool all_zero(const uint8_t *record, size_t from, size_t to)
 
 static bool registers_sound(const uint8_t *record)
 {
-    uint32_t cr0 = get(record, AT_CR0, 2);
-    bool enabled = (record[AT_CR1] & CR1_SSE) != 0;
+    uint32_t cr0 = record_cr0(record);
+    bool enabled = (record[PL022_RECORD_CR1] & PL022_CR1_SSE) != 0;
 
     return (cr0_permitted(cr0) || (cr0 == 0 && !enabled))
-        && record[AT_CPSR] % 2 == 0
-        && !(enabled && record[AT_CPSR] == 0);
+        && record[PL022_RECORD_CPSR] % 2 == 0
+        && !(enabled && record[PL022_RECORD_CPSR] == 0);
 }
 
 bool record_sound(const uint8_t *record)
@@ -142,17 +165,66 @@ bool record_sound(const uint8_t *record)
             return false;
         }
     }
-    size_t unsent = AT_SEND_QUEUE + 2U * record[AT_TO_SEND];
-    size_t unread = AT_RECEIVE_QUEUE + 2U * record[AT_RECEIVED];
-    return all_zero(record, unsent, AT_RECEIVE_QUEUE)
-        && all_zero(record, unread, AT_SPARE)
-        && all_zero(record, AT_SPARE, PL022_RECORD_LENGTH);
+    size_t unsent = PL022_RECORD_TX_QUEUE + 2U * record[PL022_RECORD_TX_COUNT];
+    size_t unread = PL022_RECORD_RX_QUEUE + 2U * record[PL022_RECORD_RX_COUNT];
+    return all_zero(record, unsent, PL022_RECORD_RX_QUEUE)
+        && all_zero(record, unread, PL022_RECORD_SPARE_2)
+        && all_zero(record, PL022_RECORD_SPARE_2, PL022_RECORD_LENGTH);
+}
+
+static uint32_t status_word(const uint8_t *record)
+{
+    unsigned to_send = record[PL022_RECORD_TX_COUNT];
+    unsigned received = record[PL022_RECORD_RX_COUNT];
+    bool busy = record[PL022_RECORD_FRAME] != 0 || to_send > 0;
+
+    return (to_send == 0 ? PL022_SR_TFE : 0)
+         | (to_send < PL022_QUEUE_WORDS ? PL022_SR_TNF : 0)
+         | (received > 0 ? PL022_SR_RNE : 0)
+         | (received == PL022_QUEUE_WORDS ? PL022_SR_RFF : 0)
+         | (busy ? PL022_SR_BSY : 0);
+}
+
+static uint32_t raw_word(const uint8_t *record)
+{
+    return (record[PL022_RECORD_ROR] != 0 ? PL022_INT_ROR : 0)
+         | (record[PL022_RECORD_RT] != 0 ? PL022_INT_RT : 0)
+         | (record[PL022_RECORD_RX_COUNT] >= 4 ? PL022_INT_RX : 0)
+         | (record[PL022_RECORD_TX_COUNT] <= 4 ? PL022_INT_TX : 0);
+}
+
+uint32_t record_word(const uint8_t *record, uint32_t offset)
+{
+    static const uint8_t identity[] = {0x22, 0x10, 0x34, 0x00, 0x0D, 0xF0, 0x05, 0xB1};
+
+    switch (offset) {
+    case PL022_CR0:
+        return record_cr0(record);
+    case PL022_CR1:
+        return record[PL022_RECORD_CR1];
+    case PL022_DR:
+        return get(record, PL022_RECORD_RX_QUEUE, 2);
+    case PL022_SR:
+        return status_word(record);
+    case PL022_CPSR:
+        return record[PL022_RECORD_CPSR];
+    case PL022_IMSC:
+        return record[PL022_RECORD_IMSC];
+    case PL022_RIS:
+        return raw_word(record);
+    case PL022_MIS:
+        return raw_word(record) & record[PL022_RECORD_IMSC];
+    case PL022_DMACR:
+        return record[PL022_RECORD_DMACR];
+    default:
+        return identity[(offset - PL022_IDENTITY) / 4];
+    }
 }
 
 void record_after_reset(uint8_t *record)
 {
     memset(record, 0, PL022_RECORD_LENGTH);
-    record[PL022_RECORD_LINES] = 0x0A;
+    record[PL022_RECORD_LINES] = PL022_LINES_RESET;
 }
 
 /* 0 to the limit, often one of the ends or next to the upper one. */
@@ -172,14 +244,17 @@ static uint32_t draw_near(uint32_t limit)
 
 static void forge_registers(uint8_t *record)
 {
-    set(record, AT_CR0, 2, draw_cr0(draw_one_in(3) ? draw_near(255) : draw_below(3)));
-    record[AT_CPSR] = (uint8_t)(2 * (draw_one_in(3) ? draw_near(126) + 1 : draw_between(1, 3)));
-    record[AT_CR1] = (uint8_t)draw_below(16);
+    uint8_t *cr1 = &record[PL022_RECORD_CR1];
+    uint8_t *cpsr = &record[PL022_RECORD_CPSR];
+
+    set(record, PL022_RECORD_CR0, 2, draw_cr0(draw_one_in(3) ? draw_near(255) : draw_below(3)));
+    *cpsr = (uint8_t)(2 * (draw_one_in(3) ? draw_near(126) + 1 : draw_between(1, 3)));
+    *cr1 = (uint8_t)draw_below(16);
     if (!draw_one_in(4)) {
-        record[AT_CR1] |= CR1_SSE;
-    } else if ((record[AT_CR1] & CR1_SSE) == 0 && draw_one_in(4)) {
-        set(record, AT_CR0, 2, 0);
-        record[AT_CPSR] = 0;
+        *cr1 |= PL022_CR1_SSE;
+    } else if ((*cr1 & PL022_CR1_SSE) == 0 && draw_one_in(4)) {
+        set(record, PL022_RECORD_CR0, 2, 0);
+        *cpsr = 0;
     }
 }
 
@@ -188,12 +263,12 @@ void record_forge(uint8_t *record)
     memset(record, 0, PL022_RECORD_LENGTH);
     forge_registers(record);
     for (size_t i = 0; i < FIELDS; i++) {
-        if (fields[i].at != AT_CR1) {
+        if (fields[i].at != PL022_RECORD_CR1) {
             set(record, fields[i].at, fields[i].size, draw_near(most(record, &fields[i])));
         }
     }
-    draw_bytes(record + AT_SEND_QUEUE, 2U * record[AT_TO_SEND]);
-    draw_bytes(record + AT_RECEIVE_QUEUE, 2U * record[AT_RECEIVED]);
+    draw_bytes(record + PL022_RECORD_TX_QUEUE, 2U * record[PL022_RECORD_TX_COUNT]);
+    draw_bytes(record + PL022_RECORD_RX_QUEUE, 2U * record[PL022_RECORD_RX_COUNT]);
 }
 
 void record_overstep(uint8_t *record)
@@ -204,15 +279,16 @@ void record_overstep(uint8_t *record)
         const struct field *field = &fields[kind];
         set(record, field->at, field->size, most(record, field) + 1);
     } else if (kind == FIELDS) {
-        record[AT_CR0] |= 0x30;
+        set(record, PL022_RECORD_CR0, 2, record_cr0(record) | PL022_CR0_FRF_MASK);
     } else if (kind == FIELDS + 1) {
-        record[AT_CR0] = (uint8_t)((record[AT_CR0] & 0xF0U) | draw_below(LEAST_DSS));
+        uint32_t dss = draw_below(LEAST_DSS) << PL022_CR0_DSS_SHIFT;
+        set(record, PL022_RECORD_CR0, 2, (record_cr0(record) & ~PL022_CR0_DSS_MASK) | dss);
     } else if (kind == FIELDS + 2) {
-        record[AT_CPSR] |= 1;
+        record[PL022_RECORD_CPSR] |= 1;
     } else if (kind == FIELDS + 3) {
-        record[AT_CPSR] = 0;
+        record[PL022_RECORD_CPSR] = 0;
     } else {
-        record[draw_between(AT_SEND_QUEUE, PL022_RECORD_LENGTH - 1)] |= 1;
+        record[draw_between(PL022_RECORD_TX_QUEUE, PL022_RECORD_LENGTH - 1)] |= 1;
     }
 }
 

@@ -1,5 +1,5 @@
 /*
- * record.h: the bytes of a device record, as docs/RECORD.md lays them out.
+ * record.h: the fields of a device record, held to the rules of docs/RECORD.md.
  */
 #ifndef FUZZ_RECORD_H
 #define FUZZ_RECORD_H
@@ -9,11 +9,9 @@
 
 #include "pl022.h"
 
-/* Places of the bytes that the checks look at. */
-enum { AT_CR0 = 0, AT_CR1 = 2, AT_CPSR = 3, AT_RECEIVED = 29 };
-
 enum { FORMATS = 3, LEAST_DSS = 3 };
 
+/* FRF as a number below FORMATS. */
 unsigned record_format(const uint8_t *record);
 unsigned record_dss(const uint8_t *record);
 
@@ -25,6 +23,9 @@ uint32_t draw_cr0(uint32_t scr);
 
 /* Rules S1 to S15. */
 bool record_sound(const uint8_t *record);
+
+/* The word that a read of a sound record gives at an offset that can be read. */
+uint32_t record_word(const uint8_t *record, uint32_t offset);
 
 /* The record after reset. */
 void record_after_reset(uint8_t *record);

@@ -123,7 +123,8 @@ static void swap_pair(const struct request *request, const struct outcome *outco
 static uint8_t wired(const uint8_t *record)
 {
     uint8_t lines = record[PL022_RECORD_LINES];
-    return (uint8_t)((lines & 8U) != 0 ? lines & 3U : lines & 7U);
+    bool high = (lines & PL022_TXD) != 0 && (lines & PL022_NSSPOE) == 0;
+    return (uint8_t)((lines & (PL022_CLK | PL022_FSS)) | (high ? PL022_RXD : 0));
 }
 
 static void follow_pair(const struct request *request, const struct outcome *outcome)

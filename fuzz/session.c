@@ -25,7 +25,9 @@ static uint32_t rarity;
 
 static size_t draw_length(void)
 {
-    static const uint16_t lengths[] = {0, 1, 127, 129, 256, 4096, LENT_LIMIT};
+    static const uint16_t lengths[] = {
+        0, 1, PL022_RECORD_LENGTH - 1, PL022_RECORD_LENGTH + 1, 256, 4096, LENT_LIMIT
+    };
     uint32_t kind = draw_below(sizeof lengths / sizeof lengths[0] + 1);
     return kind < sizeof lengths / sizeof lengths[0] ? lengths[kind] : draw_below(1024);
 }
@@ -115,11 +117,11 @@ static uint32_t draw_offset(void)
     case 0:
         return (uint32_t)draw_bits();
     case 1:
-        return draw_between(SPACE_END - 40, SPACE_END + 8);
+        return draw_between(PL022_SPACE_LENGTH - 40, PL022_SPACE_LENGTH + 8);
     case 2:
         return PL022_IDENTITY + 4 * draw_below(8);
     case 3:
-        return 4 * draw_below(SPACE_END / 4 + 4);
+        return 4 * draw_below(PL022_SPACE_LENGTH / 4 + 4);
     case 4:
         return draw_below(PL022_DMACR + 12);
     default:
@@ -165,8 +167,9 @@ static void draw_wave(uint8_t *input, size_t length)
 
     for (size_t i = 0; i < length; i++) {
         uint32_t at = (uint32_t)i + phase;
-        input[i] = (uint8_t)((at / half & 1U) | (at % frame < mark ? 2U : 0U)
-                             | (uint32_t)draw_below(2) << 2);
+        input[i] = (uint8_t)((at / half % 2 != 0 ? PL022_CLK : 0)
+                             | (at % frame < mark ? PL022_FSS : 0)
+                             | (draw_below(2) != 0 ? PL022_RXD : 0));
     }
 }
 
@@ -174,12 +177,12 @@ static void draw_levels(uint8_t *input, size_t length)
 {
     switch (draw_below(4)) {
     case 0:
-        memset(input, (int)draw_below(8), length);
+        memset(input, (int)draw_below(PL022_INPUT_MASK + 1), length);
         return;
     case 1:
         draw_bytes(input, length);
         for (size_t i = 0; i < length; i++) {
-            input[i] &= 7;
+            input[i] &= PL022_INPUT_MASK;
         }
         return;
     default:
@@ -236,11 +239,11 @@ static void load(unsigned which, uint32_t words)
 
 static void set_up(unsigned which, uint32_t cr0, uint32_t cpsr, uint32_t cr1)
 {
-    write_register(which, PL022_CR1, cr1 & ~(uint32_t)CR1_SSE);
+    write_register(which, PL022_CR1, cr1 & ~PL022_CR1_SSE);
     write_register(which, PL022_CR0, cr0);
     write_register(which, PL022_CPSR, cpsr);
     load(which, draw_below(5));
-    write_register(which, PL022_CR1, cr1 | CR1_SSE);
+    write_register(which, PL022_CR1, cr1 | PL022_CR1_SSE);
 }
 
 static void step_set_up(unsigned which)
@@ -259,11 +262,11 @@ static void step_set_up_pair(unsigned which)
     uint32_t cpsr = 2 * draw_between(6, 8);
 
     write_register(1 - which, PL022_CR1, 0);
-    set_up(1 - which, cr0, cpsr, CR1_MS);
+    set_up(1 - which, cr0, cpsr, PL022_CR1_MS);
     request.cycles = draw_between(4, 8);
     submit(CALL_PAIR_RUN, which);
     write_register(which, PL022_CR1, 0);
-    set_up(which, cr0, cpsr, draw_below(2) * CR1_SOD);
+    set_up(which, cr0, cpsr, draw_below(2) * PL022_CR1_SOD);
     request.cycles = draw_between(100, 1500);
     submit(CALL_PAIR_RUN, which);
 }
@@ -305,9 +308,9 @@ static void step_status(unsigned which)
 
 static void step_disable(unsigned which)
 {
-    write_register(which, PL022_CR1, draw_below(16) & ~(uint32_t)CR1_SSE);
+    write_register(which, PL022_CR1, draw_below(16) & ~PL022_CR1_SSE);
     if (draw_one_in(2)) {
-        write_register(which, PL022_CR1, draw_below(16) | CR1_SSE);
+        write_register(which, PL022_CR1, draw_below(16) | PL022_CR1_SSE);
     }
 }
 

@@ -17,7 +17,7 @@ static uint64_t raw_seen[RAW_BITS];
 /* A Microwire slave stays idle, so no word arrives in it. */
 static bool may_receive(unsigned format, unsigned slave)
 {
-    return format != FORMATS - 1 || slave == 0;
+    return format != PL022_CR0_FRF_MICROWIRE >> PL022_CR0_FRF_SHIFT || slave == 0;
 }
 
 static void tally_run(const struct request *request, const struct outcome *outcome, enum role role)
@@ -25,13 +25,13 @@ static void tally_run(const struct request *request, const struct outcome *outco
     const uint8_t *before = request->lent[role].data;
     const uint8_t *after = outcome->after[role].data;
     unsigned format = record_format(before);
-    unsigned slave = (before[AT_CR1] & CR1_MS) != 0;
+    unsigned slave = (before[PL022_RECORD_CR1] & PL022_CR1_MS) != 0;
 
-    if ((before[AT_CR1] & CR1_SSE) == 0) {
+    if ((before[PL022_RECORD_CR1] & PL022_CR1_SSE) == 0) {
         return;
     }
     enabled_runs[format][slave][record_dss(before)]++;
-    arrivals[format][slave] += after[AT_RECEIVED] > before[AT_RECEIVED];
+    arrivals[format][slave] += after[PL022_RECORD_RX_COUNT] > before[PL022_RECORD_RX_COUNT];
 }
 
 static void digest_number(uint64_t number)

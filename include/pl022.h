@@ -1,11 +1,18 @@
 /*
- * pl022.h: a software model of ARM's PL022 serial port, called from C.
+ * pl022.h: a software model of ARM's PL022 serial port, called from C or C++.
  *
  * A device is a record of PL022_RECORD_LENGTH bytes that you own. Lend it to
  * every call; there is no other state, no allocation and no global, so any
  * number of devices may exist at the same time, and a copy of the bytes is a copy of
- * the device. docs/RECORD.md describes the bytes, docs/DRIVERS.md is for authors of
- * drivers. Begin with pl022_reset.
+ * the device. Begin with pl022_reset.
+ *
+ *     docs/MODEL.md     what the device does
+ *     docs/DRIVERS.md   for authors of drivers: which accesses, in which order
+ *     docs/RECORD.md    the bytes of a record
+ *
+ * Time passes only in runs: pl022_run, pl022_run_to_idle and pl022_pair_run. Accesses
+ * fall between cycles, so a loop that polls a register must run cycles as well. The
+ * interrupt line is HIGH exactly while MIS is not 0.
  *
  * Line bytes. A run takes an input byte and gives an output byte for each cycle:
  *
@@ -13,7 +20,6 @@
  *     output   CLK 1, FSS 2, TXD 4, nSSPOE 8   0 to 15
  *
  * A set bit is a HIGH level. nSSPOE HIGH means that the device does not drive TXD.
- * Register accesses fall between cycles.
  *
  * Refusals. Every call answers with a refusal number. 0 means that the call was
  * done. With any other number nothing happened: the record and all buffers are as
@@ -59,6 +65,12 @@ extern "C" {
 /* The length of a record in bytes. */
 #define PL022_RECORD_LENGTH 128
 
+/* The length of the register space in bytes: offsets from here on are refused with 1. */
+#define PL022_SPACE_LENGTH 0x1000
+
+/* The words that each of the two queues holds. */
+#define PL022_QUEUE_WORDS 8
+
 /* Refusal numbers; the table above says when each is given. */
 enum pl022_refusal {
     PL022_DONE = 0,
@@ -76,7 +88,10 @@ enum pl022_refusal {
     PL022_BAD_INPUT = 12
 };
 
-/* Register offsets. The identity registers are eight, four bytes apart. */
+/*
+ * Register offsets. The identity registers are eight, four bytes apart; they read
+ * 22 10 34 00 0D F0 05 B1 (hexadecimal).
+ */
 enum pl022_register {
     PL022_CR0 = 0x00,
     PL022_CR1 = 0x04,
@@ -91,19 +106,95 @@ enum pl022_register {
     PL022_IDENTITY = 0xFE0
 };
 
+/*
+ * Bits and fields of the registers, in place; a field also has the shift of its lowest
+ * bit. They are unsigned, so that ~PL022_CR1_SSE needs no cast.
+ */
+
+/* CR0. A slot is (CPSR / 2) * (1 + SCR) cycles, a bit two slots. */
+#define PL022_CR0_DSS_SHIFT 0
+#define PL022_CR0_DSS_MASK 0x000Fu      /* bits in a word, less 1: 3 to 15 */
+#define PL022_CR0_FRF_SHIFT 4
+#define PL022_CR0_FRF_MASK 0x0030u      /* frame format, one of the next three */
+#define PL022_CR0_FRF_MOTOROLA 0x0000u
+#define PL022_CR0_FRF_TI 0x0010u
+#define PL022_CR0_FRF_MICROWIRE 0x0020u
+#define PL022_CR0_SPO 0x0040u           /* Motorola: CLK rests HIGH */
+#define PL022_CR0_SPH 0x0080u           /* Motorola: captures at the second edge of CLK */
+#define PL022_CR0_SCR_SHIFT 8
+#define PL022_CR0_SCR_MASK 0xFF00u      /* serial clock rate, 0 to 255 */
+
+/* CR1. */
+#define PL022_CR1_LBM 0x1u              /* loopback: the device captures its own TXD */
+#define PL022_CR1_SSE 0x2u              /* enabled */
+#define PL022_CR1_MS 0x4u               /* slave */
+#define PL022_CR1_SOD 0x8u              /* as slave never drives TXD */
+
+/* SR. */
+#define PL022_SR_TFE 0x01u              /* transmit queue empty */
+#define PL022_SR_TNF 0x02u              /* transmit queue not full */
+#define PL022_SR_RNE 0x04u              /* receive queue not empty */
+#define PL022_SR_RFF 0x08u              /* receive queue full */
+#define PL022_SR_BSY 0x10u              /* a frame is in progress, or a word waits */
+
+/* Interrupts: in IMSC a one lets through; RIS is raw, MIS masked; in ICR a one clears ROR or RT. */
+#define PL022_INT_ROR 0x1u              /* overrun: a received word was dropped */
+#define PL022_INT_RT 0x2u               /* timeout: received words wait to be read */
+#define PL022_INT_RX 0x4u               /* four or more words received */
+#define PL022_INT_TX 0x8u               /* four or fewer words to send */
+
+/* DMACR. The model stores these bits, and they do nothing. */
+#define PL022_DMACR_RXDMAE 0x1u         /* DMA for the receive queue */
+#define PL022_DMACR_TXDMAE 0x2u         /* DMA for the transmit queue */
+
+/* What reset leaves; CR0, CR1, CPSR, IMSC, MIS and DMACR read 0. */
+#define PL022_SR_RESET 0x03u            /* TFE, TNF */
+#define PL022_RIS_RESET 0x8u            /* TX */
+
 /* Bits of a line byte: RXD in an input byte, TXD and nSSPOE in an output byte. */
 enum pl022_line {
     PL022_CLK = 1,
     PL022_FSS = 2,
     PL022_RXD = 4,
     PL022_TXD = 4,
-    PL022_NSSPOE = 8
+    PL022_NSSPOE = 8,
+    PL022_INPUT_MASK = 7,       /* all bits of an input byte */
+    PL022_OUTPUT_MASK = 15,     /* all bits of an output byte */
+    PL022_LINES_RESET = 10      /* the lines after reset: idle, FSS and nSSPOE HIGH */
 };
 
-/* Where a record keeps the input and the output byte of the last cycle run. */
+/*
+ * Where a record keeps each field, in bytes from its start. A field is one byte if no
+ * length is given; in longer ones the low byte comes first.
+ */
 enum pl022_place {
-    PL022_RECORD_PINS = 24,
-    PL022_RECORD_LINES = 27
+    PL022_RECORD_CR0 = 0,               /* 2 bytes */
+    PL022_RECORD_CR1 = 2,
+    PL022_RECORD_CPSR = 3,
+    PL022_RECORD_IMSC = 4,
+    PL022_RECORD_DMACR = 5,
+    PL022_RECORD_ROR = 6,               /* raw interrupt, 0 or 1 */
+    PL022_RECORD_RT = 7,                /* raw interrupt, 0 or 1 */
+    PL022_RECORD_RT_COUNT = 8,          /* 4 bytes: cycles towards RT */
+    PL022_RECORD_FRAME = 12,            /* 1: a frame is in progress */
+    PL022_RECORD_SELECTED = 13,         /* slave, 1: selected */
+    PL022_RECORD_TI_MARK = 14,          /* slave, 1: a TI start was seen */
+    PL022_RECORD_CAPTURED = 15,         /* bits of the word being received so far */
+    PL022_RECORD_SLOT = 16,             /* master: slot number */
+    PL022_RECORD_HELD = 17,             /* data level held on TXD, 0 or 1 */
+    PL022_RECORD_SLOT_CYCLES = 18,      /* 2 bytes: cycles gone in the slot */
+    PL022_RECORD_TX_WORD = 20,          /* 2 bytes: word being sent */
+    PL022_RECORD_RX_WORD = 22,          /* 2 bytes: word being received */
+    PL022_RECORD_PINS = 24,             /* input byte of the last cycle run */
+    PL022_RECORD_PINS_1 = 25,           /* of the cycle before */
+    PL022_RECORD_PINS_2 = 26,           /* of the cycle before that */
+    PL022_RECORD_LINES = 27,            /* output byte of the last cycle run */
+    PL022_RECORD_TX_COUNT = 28,         /* words to send */
+    PL022_RECORD_RX_COUNT = 29,         /* words received */
+    PL022_RECORD_SPARE_1 = 30,          /* 2 bytes, zero */
+    PL022_RECORD_TX_QUEUE = 32,         /* 16 bytes: PL022_QUEUE_WORDS places, oldest word first */
+    PL022_RECORD_RX_QUEUE = 48,         /* 16 bytes, the same */
+    PL022_RECORD_SPARE_2 = 64           /* 64 bytes, zero */
 };
 
 /* What a read answers: a word with refusal 0, or a refusal number with word 0. */
@@ -121,8 +212,8 @@ struct pl022_count {
 /*
  * pl022_reset: the record becomes that of a device as after reset.
  *
- * All registers are zero and both queues empty (SR reads 0x03, RIS 0x8), the pins
- * count as LOW, and the lines are the idle ones.
+ * All registers are zero and both queues empty, hence SR reads PL022_SR_RESET and RIS
+ * PL022_RIS_RESET. The pins count as LOW, and the lines are PL022_LINES_RESET.
  *
  * Returns     0, or 10.
  * Unchanged   the record, if refused. What it held before does not matter: this is
@@ -146,9 +237,8 @@ struct pl022_word pl022_read(uint8_t *record, size_t record_len, uint32_t offset
 /*
  * pl022_write: writes a value into the register at an offset.
  *
- * A write to DR puts a word behind those that wait to be sent. Clearing SSE in CR1
- * ends a frame or an idle slot at once, its words are gone, and both queues stay;
- * the lines are idle from the next cycle on.
+ * A write to DR puts a word behind those that wait to be sent. What a write to any
+ * other register does, clearing SSE above all, is in docs/MODEL.md.
  *
  * Returns     0, or 10, 9, 1, 2, 3, 4, 5, 6, 7.
  * Unchanged   the record, if refused.
@@ -176,12 +266,8 @@ uint32_t pl022_run(uint8_t *record, size_t record_len,
  * pl022_run_to_idle: runs cycles as pl022_run does, until the device is idle.
  *
  * It stops after the first cycle that ends with BSY 0, at once if BSY is 0 already,
- * and otherwise with the last input byte. BSY is 1 while a frame is in progress or a
- * word waits to be sent, so a disabled device with a word waiting uses all its input. A
- * master's falls in the first cycle of the first idle slot (TI: in the frame's last cycle),
- * so the idle slots are not run.
- * All input bytes are checked before the first cycle, also those that the run would
- * not reach.
+ * and otherwise with the last input byte: docs/MODEL.md says when BSY falls. All input
+ * bytes are checked before the first cycle, also those that the run would not reach.
  *
  * Returns     the number of cycles run with refusal 0; or 10, 11, 12, 9 with count 0.
  * Unchanged   the input, and the output bytes from output[count] on; record and output
@@ -201,10 +287,9 @@ struct pl022_count pl022_run_to_idle(uint8_t *record, size_t record_len,
  * between calls do not change what the next cycle sees. With 0 cycles nothing runs
  * and the answer is 0.
  *
- * The first cycle sees the output of the other's last cycle, whichever call ran it: after
- * changing settings run four cycles, then enable the slave, then the master. The call gives
- * no lines; to record them run one cycle at a time and look at PL022_RECORD_LINES in each
- * record.
+ * The first cycle sees the output of the other's last cycle, whichever call ran it:
+ * docs/DRIVERS.md says how to start a pair. The call gives no lines; to record them run
+ * one cycle at a time and look at PL022_RECORD_LINES in each record.
  *
  * Returns     0; or 10 if either record is not 128 bytes long, then 9 if either is not
  *             sound.

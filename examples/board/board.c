@@ -12,7 +12,6 @@ enum {
     POLL_PERIOD = 50,           /* cycles between two polls of a driver */
     CYCLE_LIMIT = 100000,       /* no exchange here needs as many */
     SETTLE_CYCLES = 4,          /* more than the wire and the slave's pins delay a level */
-    QUEUE_WORDS = 8,
     MAX_SLOTS = 52
 };
 
@@ -74,16 +73,16 @@ static void run_microwire(struct board *board)
 static unsigned frame_slots(const struct settings *settings)
 {
     switch (settings->format) {
-    case FORMAT_MOTOROLA: return 2 * settings->bits + (settings->sph ? 1 : 4);
-    case FORMAT_TI:       return 2 * settings->bits + 2;
-    default:              return 2 * settings->bits + 18;
+    case PL022_CR0_FRF_MOTOROLA: return 2 * settings->bits + (settings->sph ? 1 : 4);
+    case PL022_CR0_FRF_TI:       return 2 * settings->bits + 2;
+    default:                     return 2 * settings->bits + 18;
     }
 }
 
 /* In TI format the start of the next word overlaps with the last bit. */
 static unsigned next_word_slot(const struct settings *settings)
 {
-    return settings->format == FORMAT_TI ? 2 * settings->bits : frame_slots(settings);
+    return settings->format == PL022_CR0_FRF_TI ? 2 * settings->bits : frame_slots(settings);
 }
 
 /* One cycle at a time, because a pair run leaves only its last lines in the records. */
@@ -92,7 +91,7 @@ static void advance(struct board *board, unsigned cycles)
     struct recording *recording = &board->first_frame;
 
     for (unsigned i = 0; i < cycles; i++) {
-        if (board->settings->format == FORMAT_MICROWIRE)
+        if (board->settings->format == PL022_CR0_FRF_MICROWIRE)
             run_microwire(board);
         else
             run_pair(board, 1);
@@ -137,10 +136,11 @@ static void print_line(const char *name, const uint8_t *levels, unsigned slots, 
 /* The slot in which the master captures bit i of a word; i counts from the first bit sent. */
 static unsigned capture_slot(const struct settings *settings, unsigned i)
 {
-    static const unsigned first[] = {
-        [FORMAT_MOTOROLA] = 2, [FORMAT_TI] = 3, [FORMAT_MICROWIRE] = 19
-    };
-    return first[settings->format] + 2 * i;
+    switch (settings->format) {
+    case PL022_CR0_FRF_MOTOROLA: return 2 + 2 * i;
+    case PL022_CR0_FRF_TI:       return 3 + 2 * i;
+    default:                     return 19 + 2 * i;
+    }
 }
 
 static void print_recording(const struct board *board)
@@ -219,7 +219,7 @@ static uint16_t recorded_word(const uint8_t *levels, unsigned first_slot, unsign
 static void compare_recording(const struct board *board, uint16_t sent, uint16_t received)
 {
     const struct settings *settings = board->settings;
-    bool microwire = settings->format == FORMAT_MICROWIRE;
+    bool microwire = settings->format == PL022_CR0_FRF_MICROWIRE;
     unsigned first = capture_slot(settings, 0);
     uint16_t txd = recorded_word(board->first_frame.lines, microwire ? 1 : first,
                                  microwire ? CONTROL_BITS : settings->bits);
@@ -241,21 +241,27 @@ static void check_limit(const struct board *board)
 
 /* --- Exchanges --- */
 
+static const char *format_name(const struct settings *settings)
+{
+    switch (settings->format) {
+    case PL022_CR0_FRF_MOTOROLA: return "Motorola";
+    case PL022_CR0_FRF_TI:       return "TI";
+    default:                     return "Microwire";
+    }
+}
+
 /* Prints the heading; cycles and recording start again. */
 static void open_exchange(struct board *board, const struct settings *settings, const char *remark)
 {
-    static const char *const names[] = {
-        [FORMAT_MOTOROLA] = "Motorola", [FORMAT_TI] = "TI", [FORMAT_MICROWIRE] = "Microwire"
-    };
     char mode[16] = "";
 
     board->settings = settings;
     board->cycles = 0;
     board->first_frame.slots = 0;
-    if (settings->format == FORMAT_MOTOROLA)
+    if (settings->format == PL022_CR0_FRF_MOTOROLA)
         snprintf(mode, sizeof mode, " SPO %u SPH %u", settings->spo & 1, settings->sph & 1);
     snprintf(board->title, sizeof board->title, "%s%s, %u bits",
-             names[settings->format], mode, settings->bits);
+             format_name(settings), mode, settings->bits);
     printf("%s, CPSR %u, SCR %u, %zu words%s\n",
            board->title, settings->cpsr, settings->scr, settings->words, remark);
 }
@@ -276,7 +282,7 @@ static void begin_pair(struct board *board, struct transfer *master,
                        struct transfer *slave, size_t slave_count)
 {
     begin(board, master);
-    port_setup(&board->slave, board->settings, CR1_MS);
+    port_setup(&board->slave, board->settings, PL022_CR1_MS);
     transfer_start(slave, &board->slave, slave_words, slave_count);
     run_pair(board, SETTLE_CYCLES);
     port_enable(&board->slave);
@@ -363,20 +369,22 @@ static void exchange_microwire(struct board *board, const struct settings *setti
  */
 static void exchange_late(struct board *board)
 {
-    static const struct settings settings = { FORMAT_MOTOROLA, 0, 1, 8, 12, 0, QUEUE_WORDS + 1 };
+    static const struct settings settings = {
+        PL022_CR0_FRF_MOTOROLA, 0, 1, 8, 12, 0, PL022_QUEUE_WORDS + 1
+    };
     struct transfer master, slave;
-    uint16_t to_slave[QUEUE_WORDS], to_master[QUEUE_WORDS + 1] = { 0 };
+    uint16_t to_slave[PL022_QUEUE_WORDS], to_master[PL022_QUEUE_WORDS + 1] = { 0 };
 
     open_exchange(board, &settings, ", the slave is polled too late");
-    begin_pair(board, &master, &slave, QUEUE_WORDS);
+    begin_pair(board, &master, &slave, PL022_QUEUE_WORDS);
     exchange(board, &master, NULL);
     transfer_poll(&slave);
     transfer_poll(&slave);      /* finds no overrun: the first poll has cleared the flag */
     print_pair(board, &master, &slave);
 
-    cut_words(to_slave, master_words, QUEUE_WORDS, settings.bits);
-    cut_words(to_master, slave_words, QUEUE_WORDS, settings.bits);
-    compare(board, "slave received", slave.answer, slave.received, to_slave, QUEUE_WORDS);
+    cut_words(to_slave, master_words, PL022_QUEUE_WORDS, settings.bits);
+    cut_words(to_master, slave_words, PL022_QUEUE_WORDS, settings.bits);
+    compare(board, "slave received", slave.answer, slave.received, to_slave, PL022_QUEUE_WORDS);
     compare(board, "master received", master.answer, master.received, to_master, settings.words);
     compare_overruns(board, &master, 0);
     compare_overruns(board, &slave, 1);
@@ -386,13 +394,13 @@ int main(void)
 {
     /* With a PL022 slave a slot has at least 6 cycles; the peripheral here has no such limit. */
     static const struct settings exchanges[] = {
-        { FORMAT_MOTOROLA,  0, 0,  8, 12, 0, 12 },
-        { FORMAT_MOTOROLA,  0, 1, 12,  4, 2,  8 },
-        { FORMAT_MOTOROLA,  1, 0,  4,  2, 5, 10 },
-        { FORMAT_MOTOROLA,  1, 1, 16, 14, 0, 12 },
-        { FORMAT_MICROWIRE, 0, 0, 10,  2, 0, 12 },
-        { FORMAT_MICROWIRE, 0, 0, 16,  4, 1,  3 },
-        { FORMAT_TI,        0, 0,  9,  6, 1, 11 },
+        { PL022_CR0_FRF_MOTOROLA,  0, 0,  8, 12, 0, 12 },
+        { PL022_CR0_FRF_MOTOROLA,  0, 1, 12,  4, 2,  8 },
+        { PL022_CR0_FRF_MOTOROLA,  1, 0,  4,  2, 5, 10 },
+        { PL022_CR0_FRF_MOTOROLA,  1, 1, 16, 14, 0, 12 },
+        { PL022_CR0_FRF_MICROWIRE, 0, 0, 10,  2, 0, 12 },
+        { PL022_CR0_FRF_MICROWIRE, 0, 0, 16,  4, 1,  3 },
+        { PL022_CR0_FRF_TI,        0, 0,  9,  6, 1, 11 },
     };
     size_t count = sizeof exchanges / sizeof exchanges[0], words = 0;
     struct board board = { 0 };
@@ -400,7 +408,7 @@ int main(void)
     port_reset(&board.master, "master");
     port_reset(&board.slave, "slave");
     for (size_t i = 0; i < count; i++) {
-        if (exchanges[i].format == FORMAT_MICROWIRE)
+        if (exchanges[i].format == PL022_CR0_FRF_MICROWIRE)
             exchange_microwire(&board, &exchanges[i]);
         else
             exchange_pair(&board, &exchanges[i]);

@@ -14,16 +14,6 @@
 #include <stdint.h>
 #include "pl022.h"
 
-/* Register bits and fields. */
-enum {
-    CR0_FRF_SHIFT = 4, CR0_SPO = 0x40, CR0_SPH = 0x80, CR0_SCR_SHIFT = 8,
-    CR1_LBM = 1, CR1_SSE = 2, CR1_MS = 4,
-    SR_BSY = 0x10,
-    INT_ROR = 1         /* in RIS and in ICR */
-};
-
-enum format { FORMAT_MOTOROLA = 0, FORMAT_TI = 1, FORMAT_MICROWIRE = 2 };
-
 /* TXD in an output byte, RXD in an input byte. */
 enum { LINE_DATA = PL022_TXD };
 
@@ -39,7 +29,7 @@ struct port {
 
 /* What one exchange needs to know: format, word size, bit rate, length. */
 struct settings {
-    enum format format;
+    uint32_t format;            /* FRF of CR0 */
     unsigned spo, sph;
     unsigned bits;
     unsigned cpsr, scr;

@@ -37,7 +37,7 @@ const char *register_name(uint32_t offset)
     case PL022_MIS:   return "MIS";
     case PL022_ICR:   return "ICR";
     case PL022_DMACR: return "DMACR";
-    default:        return "another offset";
+    default:          return "another offset";
     }
 }
 
@@ -97,25 +97,25 @@ static bool port_receive(struct port *port, uint16_t *word)
 void port_disable(struct port *port)
 {
     uint32_t cr1 = port_read(port, PL022_CR1);
-    port_write(port, PL022_CR1, cr1 & ~(uint32_t)CR1_SSE);
+    port_write(port, PL022_CR1, cr1 & ~PL022_CR1_SSE);
 }
 
-/* role is 0 for a master, CR1_MS for a slave. The port is left disabled. */
+/* role is 0 for a master, PL022_CR1_MS for a slave. The port is left disabled. */
 void port_setup(struct port *port, const struct settings *settings, uint32_t role)
 {
     port_disable(port);     /* CPSR, CR0 and MS are fixed while SSE is 1 */
     port_write(port, PL022_CPSR, settings->cpsr);
     port_write(port, PL022_CR0,
-               settings->scr << CR0_SCR_SHIFT | (settings->sph ? CR0_SPH : 0u) |
-               (settings->spo ? CR0_SPO : 0u) | (uint32_t)settings->format << CR0_FRF_SHIFT |
-               (settings->bits - 1));
+               settings->scr << PL022_CR0_SCR_SHIFT | (settings->sph ? PL022_CR0_SPH : 0u) |
+               (settings->spo ? PL022_CR0_SPO : 0u) | settings->format |
+               (settings->bits - 1) << PL022_CR0_DSS_SHIFT);
     port_write(port, PL022_CR1, role);
-    port_write(port, PL022_ICR, INT_ROR);     /* an old overrun is not one of the next message */
+    port_write(port, PL022_ICR, PL022_INT_ROR);  /* an old overrun is not one of the next message */
 }
 
 void port_enable(struct port *port)
 {
-    port_write(port, PL022_CR1, port_read(port, PL022_CR1) | CR1_SSE);
+    port_write(port, PL022_CR1, port_read(port, PL022_CR1) | PL022_CR1_SSE);
 }
 
 /* Fills the transmit queue, so that the first words wait when the port is enabled. */
@@ -156,9 +156,9 @@ void transfer_poll(struct transfer *transfer)
 {
     transfer->polls++;
     receive_words(transfer);
-    if (port_read(transfer->port, PL022_RIS) & INT_ROR) {
+    if (port_read(transfer->port, PL022_RIS) & PL022_INT_ROR) {
         transfer->overruns++;
-        port_write(transfer->port, PL022_ICR, INT_ROR);
+        port_write(transfer->port, PL022_ICR, PL022_INT_ROR);
     }
     send_words(transfer);
 }
@@ -167,5 +167,5 @@ void transfer_poll(struct transfer *transfer)
 bool transfer_done(const struct transfer *transfer)
 {
     return transfer->sent == transfer->count && transfer->received >= transfer->count &&
-           !(port_read(transfer->port, PL022_SR) & SR_BSY);
+           !(port_read(transfer->port, PL022_SR) & PL022_SR_BSY);
 }

@@ -25,17 +25,18 @@ struct attempt {
 };
 
 static const struct attempt attempts[] = {
-    { PL022_BAD_OFFSET,    AFTER_RESET, CALL_READ,  0x02,     0, 0, "read at 0x2" },
-    { PL022_BAD_OFFSET,    AFTER_RESET, CALL_WRITE, 0x1000,   0, 0, "write at 0x1000" },
-    { PL022_RESERVED,      AFTER_RESET, CALL_READ,  0x28,     0, 0, "read at 0x28" },
+    { PL022_BAD_OFFSET,    AFTER_RESET, CALL_READ,  0x02, 0, 0, "read at 0x2" },
+    { PL022_BAD_OFFSET,    AFTER_RESET, CALL_WRITE, PL022_SPACE_LENGTH, 0, 0, "write at 0x1000" },
+    { PL022_RESERVED,      AFTER_RESET, CALL_READ,  PL022_DMACR + 4, 0, 0, "read at 0x28" },
     { PL022_WRONG_ACCESS,  AFTER_RESET, CALL_WRITE, PL022_SR,   0, 0, "write of SR" },
     { PL022_WRONG_ACCESS,  AFTER_RESET, CALL_READ,  PL022_ICR,  0, 0, "read of ICR" },
     { PL022_EXTRA_BITS,    AFTER_RESET, CALL_WRITE, PL022_CR1,  0x10, 0, "CR1 with bit 4" },
     { PL022_WHILE_ENABLED, ENABLED,     CALL_WRITE, PL022_CPSR, 14, 0, "CPSR with SSE 1" },
-    { PL022_WHILE_ENABLED, ENABLED,     CALL_WRITE, PL022_CR1,  CR1_MS, 0,
+    { PL022_WHILE_ENABLED, ENABLED,     CALL_WRITE, PL022_CR1,  PL022_CR1_MS, 0,
       "CR1: MS set and SSE cleared in one write" },
     { PL022_NOT_PERMITTED, AFTER_RESET, CALL_WRITE, PL022_CR0,  2, 0, "CR0 with 3 bits" },
-    { PL022_NOT_PERMITTED, AFTER_RESET, CALL_WRITE, PL022_CR1,  CR1_SSE, 0, "SSE after reset" },
+    { PL022_NOT_PERMITTED, AFTER_RESET, CALL_WRITE, PL022_CR1,  PL022_CR1_SSE, 0,
+      "SSE after reset" },
     { PL022_QUEUE_FULL,    QUEUE_FULL,  CALL_WRITE, PL022_DR,   0x55, 0, "ninth write of DR" },
     { PL022_QUEUE_EMPTY,   AFTER_RESET, CALL_READ,  PL022_DR,   0, 0, "read of DR" },
     { PL022_UNSOUND,       DAMAGED,     CALL_READ,  PL022_SR,   0, 0, "read of SR, spare byte set" },
@@ -50,7 +51,7 @@ static const struct attempt attempts[] = {
 
 static void prepare(struct lent *lent, const struct attempt *attempt)
 {
-    static const struct settings settings = { FORMAT_MOTOROLA, 0, 0, 8, 12, 0, 0 };
+    static const struct settings settings = { PL022_CR0_FRF_MOTOROLA, 0, 0, 8, 12, 0, 0 };
 
     memset(lent, 0, sizeof *lent);
     memset(lent->output, 0xEE, sizeof lent->output);
@@ -61,10 +62,10 @@ static void prepare(struct lent *lent, const struct attempt *attempt)
         port_setup(&lent->port, &settings, 0);
         port_enable(&lent->port);
     } else if (attempt->state == QUEUE_FULL) {
-        for (uint32_t word = 0; word < 8; word++)
+        for (uint32_t word = 0; word < PL022_QUEUE_WORDS; word++)
             port_write(&lent->port, PL022_DR, word);
     } else if (attempt->state == DAMAGED) {
-        lent->port.record[PL022_RECORD_LENGTH - 1] = 1;
+        lent->port.record[PL022_RECORD_SPARE_2] = 1;
     }
 }
 
@@ -124,7 +125,7 @@ static void show(const struct attempt *attempt)
 /* The change that was refused with 5 above, in the order that is accepted. */
 static void show_right_order(void)
 {
-    static const struct settings settings = { FORMAT_MOTOROLA, 0, 0, 8, 12, 0, 0 };
+    static const struct settings settings = { PL022_CR0_FRF_MOTOROLA, 0, 0, 8, 12, 0, 0 };
     struct port port;
 
     port_reset(&port, "device");
@@ -132,12 +133,12 @@ static void show_right_order(void)
     port_enable(&port);
     port_disable(&port);
     port_write(&port, PL022_CPSR, 14);
-    port_write(&port, PL022_CR1, CR1_MS);
+    port_write(&port, PL022_CR1, PL022_CR1_MS);
     port_enable(&port);
     uint32_t cpsr = port_read(&port, PL022_CPSR), cr1 = port_read(&port, PL022_CR1);
     printf("  after 5: SSE cleared by a write of its own, then CPSR 14, MS and SSE: done; "
            "CPSR %" PRIu32 ", CR1 %" PRIX32 "\n", cpsr, cr1);
-    if (cpsr != 14 || cr1 != (CR1_MS | CR1_SSE)) {
+    if (cpsr != 14 || cr1 != (PL022_CR1_MS | PL022_CR1_SSE)) {
         fflush(stdout);
         fprintf(stderr, "board: CPSR or CR1 not as written\n");
         exit(EXIT_FAILURE);

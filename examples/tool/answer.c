@@ -2,8 +2,6 @@
 
 #include <inttypes.h>
 
-#include "record.h"
-
 static unsigned little_endian_16(const uint8_t *bytes)
 {
     return bytes[0] | (unsigned)bytes[1] << 8;
@@ -24,15 +22,16 @@ static void put_queue(FILE *out, const uint8_t *places, unsigned count)
 static void put_dump(FILE *out, const uint8_t *record)
 {
     fprintf(out, "cr0=%x cr1=%x cpsr=%x imsc=%x dmacr=%x",
-            little_endian_16(record + AT_CR0), record[AT_CR1], record[AT_CPSR],
-            record[AT_IMSC], record[AT_DMACR]);
+            little_endian_16(record + PL022_RECORD_CR0), record[PL022_RECORD_CR1],
+            record[PL022_RECORD_CPSR], record[PL022_RECORD_IMSC], record[PL022_RECORD_DMACR]);
     fputs(" tx=", out);
-    put_queue(out, record + AT_TX_QUEUE, record[AT_TX_COUNT]);
+    put_queue(out, record + PL022_RECORD_TX_QUEUE, record[PL022_RECORD_TX_COUNT]);
     fputs(" rx=", out);
-    put_queue(out, record + AT_RX_QUEUE, record[AT_RX_COUNT]);
+    put_queue(out, record + PL022_RECORD_RX_QUEUE, record[PL022_RECORD_RX_COUNT]);
     fprintf(out, " ror=%u rt=%u rtcount=%" PRIu32 " frame=%u lines=%x\n",
-            record[AT_ROR], record[AT_RT], little_endian_32(record + AT_RT_COUNT),
-            record[AT_FRAME], record[PL022_RECORD_LINES]);
+            record[PL022_RECORD_ROR], record[PL022_RECORD_RT],
+            little_endian_32(record + PL022_RECORD_RT_COUNT), record[PL022_RECORD_FRAME],
+            record[PL022_RECORD_LINES]);
 }
 
 static void put_output(FILE *out, const struct recording *recording)
@@ -41,7 +40,7 @@ static void put_output(FILE *out, const struct recording *recording)
         putc('-', out);
     }
     for (size_t n = 0; n < recording->cycles; n++) {
-        putc("0123456789abcdef"[recording->levels[n] & OUTPUT_LEVELS], out);
+        putc("0123456789abcdef"[recording->levels[n] & PL022_OUTPUT_MASK], out);
     }
 }
 

@@ -2,8 +2,6 @@
 
 #include <stdlib.h>
 
-#include "record.h"
-
 static uint8_t join_levels(uint8_t output, uint8_t input)
 {
     return (uint8_t)(output | (unsigned)input << LINE_CLK_IN);

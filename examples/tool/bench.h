@@ -13,7 +13,10 @@
 /* The most cycles that one command may run: no script can exhaust the memory. */
 #define MOST_CYCLES ((size_t)1 << 24)
 
-/* All lines of a device, output and input. Line n is bit n of a level byte. */
+/*
+ * All lines of a device, output and input. Line n is bit n of a level byte; its low bits
+ * are the library's output byte.
+ */
 enum line_number {
     LINE_CLK,
     LINE_FSS,
@@ -24,9 +27,6 @@ enum line_number {
     LINE_RXD,
     LINE_COUNT
 };
-
-/* The level bits of the device's output, which are the library's output byte. */
-#define OUTPUT_LEVELS 0x0FU
 
 struct recording {
     uint8_t *levels; /* a level byte for each cycle */

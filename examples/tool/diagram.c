@@ -102,7 +102,7 @@ static void draw_row(const struct strokes *strokes, unsigned device, const struc
 static bool inputs_are_low(const struct recording *recording)
 {
     for (size_t n = 0; n < recording->cycles; n++) {
-        if ((recording->levels[n] & ~OUTPUT_LEVELS) != 0) {
+        if ((recording->levels[n] & ~PL022_OUTPUT_MASK) != 0) {
             return false;
         }
     }
