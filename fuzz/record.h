@@ -21,7 +21,7 @@ bool cr0_permitted(uint32_t cr0);
 /* A permitted CR0 with this SCR. */
 uint32_t draw_cr0(uint32_t scr);
 
-/* Rules S1 to S15. */
+/* Rules S1 to S15 of docs/MODEL.md. */
 bool record_sound(const uint8_t *record);
 
 /* The word that a read of a sound record gives at an offset that can be read. */

@@ -259,6 +259,27 @@ if [ -e "$page" ]; then
     check "p1: the diagram in the documentation" same "$dir/want" "$dir/got"
 fi
 
+# The page about the model shows diagrams, each behind the name of its script.
+page=$(dirname "$0")/../../docs/MODEL.md
+if [ -e "$page" ]; then
+    awk -v dir="$dir" '
+        /^```/ { inside = !inside && name != ""; if (!inside) name = ""; next }
+        inside { print > (dir "/model." name) }
+        !inside && match($0, /scripts\/[a-z0-9_]+\.txt/) { name = substr($0, RSTART + 8, RLENGTH - 12) }
+    ' "$page"
+    for drawn in "$dir"/model.*; do
+        script=${drawn##*.}
+        run "$scripts/$script.txt"
+        cp "$dir/out" "$dir/answers"
+        check "$script: status" equal "$status" 0
+        pictures "$script" "$scripts/$script.txt" "$dir/answers"
+        like_other "$script" "$scripts/$script.txt" "$dir/answers"
+        run --diagram "$scripts/$script.txt"
+        grep '^  [c01]' "$dir/out" >"$dir/want"
+        check "$script: the diagram in MODEL.md" same "$dir/want" "$drawn"
+    done
+fi
+
 run "$scripts/wired.txt"
 cp "$dir/out" "$dir/answers"
 pictures wired "$scripts/wired.txt" "$dir/answers"
