@@ -10,12 +10,11 @@ use lib.Seq.{take-length}
 use borrow.Author.Tests.{eqb-true}
 use Rattle.registers.specs.Choose.{pick}
 use Rattle.registers.specs.Refusals.{refusalOf}
-use Rattle.registers.specs.Offsets.{placeOf}
-use Rattle.registers.specs.Access.{readAnswer, readRefusal, readWord}
 use Rattle.registers.specs.declared.access.Answer.{Answer}
 use Rattle.registers.specs.declared.access.Answer.the-variants.{Word, Refused}
 use Rattle.serial.specs.Cycle.{DeviceModel, deviceOf, resetDevice}
 use Rattle.serial.specs.Access.{readAnswerOf, readDevice, writeRefusalOf, writeDevice, ReadAs, WrittenAs}
+use Rattle.serial.proofs.Accesses.{refused-read}
 use Rattle.device_record.specs.Record.{encodeOf, encodedIn, decodeOf, soundBytes}
 use Rattle.device_record.specs.Run.{after, outputs, inputsFit, stopsOn, countUntil, written, served, RanAs, runRefusal}
 use Rattle.device_record.specs.Calls.{leftBy, resetRefusal, recordRefusal, readCall, writeCall, runCount, runLeft, runOutput, ResetCall, ReadCall, WriteCall, RunCall, pairRefusal, pairAfter, PairCall}
@@ -59,15 +58,6 @@ module _ (b : List ℕ) (n : ℕ) (e : n ≡ resetRefusal b) where
 record-passes : (b : List ℕ) → recordRefusal b ≡ 0 → eqb (length b) 128 ≡ true
 unfolding recordRefusal
 record-passes b z = passes (eqb (length b) 128) 10 (pick (not (soundBytes b)) 9 0) (omega arith) z .0
-
--- A read is never refused with 0.
-refused-some : (t : Bool) (x w k : ℕ) → eqb x 0 ≡ t → pick t (Word w) (Refused x) ≡ Refused k → eqb k 0 ≡ false
-refused-some true x w k q e = absurd (let z : _≡_ {A = ℕ} 0 1 = cc in omega arith)
-refused-some false x w k q e = let z : x ≡ k = cc in rw z at q
-
-refused-read : (d : DeviceModel) (o k : ℕ) → readAnswerOf d o ≡ Refused k → eqb k 0 ≡ false
-unfolding readAnswerOf readAnswer
-refused-read d o k e = refused-some (eqb (readRefusal (d .registers) (placeOf o)) 0) (readRefusal (d .registers) (placeOf o)) (readWord (d .registers) (d .engine .frame) (placeOf o)) k refl e
 
 module _ (b : List ℕ) (o n : ℕ) (e : n ≡ recordRefusal b) where
   read-answer : (a : Answer) → eqb n 0 ≡ true → readAnswerOf (decodeOf b) o ≡ a → readCall b o ≡ a

@@ -7,16 +7,11 @@ use lib.Dec.{eqb}
 use lib.ListN.{length, replicate}
 use borrow.Author.Tests.{eq-eqb}
 use Rattle.registers.specs.Choose.{pick}
-use Rattle.registers.proofs.Picks.{pick-no}
-use Rattle.registers.specs.Offsets.{placeOf}
 use Rattle.registers.specs.Refusals.{refusalOf, firstOf}
-use Rattle.registers.specs.Settings.{enabledOf}
-use Rattle.registers.specs.Model.{Model}
-use Rattle.registers.specs.Access.{readAnswer, readModel, readRefusal, readWord, readDone, writeModel, writeDone}
-use Rattle.registers.specs.declared.access.Answer.the-variants.{Word, Refused}
-use Rattle.serial.specs.Engine.{cleared}
+use Rattle.registers.specs.declared.access.Answer.the-variants.{Refused}
 use Rattle.serial.specs.Cycle.{DeviceModel, cycleOf}
-use Rattle.serial.specs.Access.{readAnswerOf, readDevice, writeRefusalOf, writeDevice, engineAfter}
+use Rattle.serial.specs.Access.{readAnswerOf, readDevice, writeRefusalOf, writeDevice}
+use Rattle.serial.proofs.Accesses.{read-same, write-same}
 use Rattle.serial.specs.Sound.{soundDevice, deviceFits}
 use Rattle.serial.proofs.Soundness.{sound-read, fits-read, sound-write, fits-write}
 use Rattle.device_record.specs.Record.{encodeOf, decodeOf, soundBytes}
@@ -34,7 +29,6 @@ use Rattle.device_record.specs.Calls.{leftBy, recordRefusal, readCall, r
 use Rattle.device_record.specs.Demand3.{devicesOf, runBytes, playBytes, playsBytes, SoundRecords, steps, ExchangedRecords, Demand3Records, LastSentenceRecords}
 use Rattle.serial.specs.Bits.{cut}
 use Rattle.serial.specs.Demand3.{Step, play, plays, cyclesIn, Stays, Start, Exchanged, slaveOn, masterOn, enables, Enabling, WholeLoad}
-use Rattle.serial.specs.declared.engine.Engine.{Engine}
 use Rattle.serial.specs.Demand3.Which.{master, slave}
 use Rattle.serial.specs.Demand3.Step.{read, write}
 
@@ -60,31 +54,6 @@ record-done b s = rw (eq-eqb (length b) 128 (length-sound b s), s)
 pair-done : (b c : List ℕ) → soundBytes b ≡ true → soundBytes c ≡ true → pairRefusal b c ≡ 0
 unfolding pairRefusal
 pair-done b c s t = rw (eq-eqb (length b) 128 (length-sound b s), eq-eqb (length c) 128 (length-sound c t), s, t)
-
--- a refused access changes nothing
-read-same : (d : DeviceModel) (o : ℕ) → eqb (refusalOf (readAnswerOf d o)) 0 ≡ false → readDevice d o ≡ d
-unfolding readAnswerOf readAnswer readDevice readModel
-read-same d o h = go (eqb (readRefusal (d .registers) (placeOf o)) 0) h
-  where
-    go : (t : Bool) → eqb (refusalOf (pick t (Word (readWord (d .registers) (d .engine .frame) (placeOf o))) (Refused (readRefusal (d .registers) (placeOf o))))) 0 ≡ false
-        → _≡_ {A = DeviceModel} (record { registers = pick t (readDone (d .registers) (placeOf o)) (d .registers); engine = d .engine; pins = d .pins; lines = d .lines }) d
-    go true k = absurd (true≢false k)
-    go false k = refl
-
-same-engine : (m : Model) (e : Engine) → engineAfter m m e ≡ e
-unfolding engineAfter
-same-engine m e = go (enabledOf (m .control))
-  where
-    go : (t : Bool) → pick (t && not t) cleared e ≡ e
-    go true = refl
-    go false = refl
-
-write-same : (d : DeviceModel) (o v : ℕ) → eqb (writeRefusalOf d o v) 0 ≡ false → writeDevice d o v ≡ d
-unfolding writeRefusalOf writeDevice writeModel
-write-same d o v h =
-    let m = d .registers in
-    ap (λ (x : Model). record { registers = x; engine = engineAfter m x (d .engine); pins = d .pins; lines = d .lines }) (pick-no (writeDone m (placeOf o) v) m h)
-    ∙ ap (λ (e : Engine). record { registers = m; engine = e; pins = d .pins; lines = d .lines }) (same-engine m (d .engine))
 
 read-left : (b : List ℕ) (o : ℕ) → soundBytes b ≡ true → Left (readLeft b o) (readDevice (decodeOf b) o)
 unfolding readCall

@@ -16,7 +16,7 @@ use Rattle.serial.specs.Sound.{soundDevice, deviceFits}
 use Rattle.serial.proofs.Soundness.{sound-reset, sound-read, sound-write, sound-cycle, fits-reset, fits-read, fits-write, fits-cycle}
 use Rattle.device_record.specs.Record.{encodeOf, decodeOf, soundBytes}
 use Rattle.device_record.proofs.RoundTrip.{sound-encode, sound-decode, fits-decode}
-use Rattle.device_record.proofs.Numbers.{read-most, write-most}
+use Rattle.serial.proofs.Accesses.{read-most, write-most}
 use Rattle.device_record.specs.Run.{steppedOf, after, inputsFit, runRefusal}
 use Rattle.device_record.specs.Calls.{leftBy, resetRefusal, resetLeft, recordRefusal, readCall, readLeft, writeCall, writeLeft, runCount, runLeft, pairRefusal, pairAfter, pairLeft, Reached}
 use Rattle.device_record.specs.declared.run.Rule.{Rule}

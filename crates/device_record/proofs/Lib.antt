@@ -1,6 +1,5 @@
 mod Bytes
 mod Runs
-mod Numbers
 pub mod Answers
 pub mod RoundTrip
 pub mod Examples

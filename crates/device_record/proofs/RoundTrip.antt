@@ -10,10 +10,10 @@ use mir.Val.{boolByte}
 use borrow.Author.Tests.{eq-eqb, eqb-true, ltb-true, leb-true, lt-ltb}
 use Rattle.registers.proofs.Picks.{and-left, and-right, and-both}
 use Rattle.registers.specs.Fields.{fieldsOf, modelFrom, places}
-use Rattle.registers.proofs.RoundTrip.{model-fields, word-fits, words-fit-take}
+use Rattle.registers.proofs.RoundTrip.{FileFits, file-fits, model-fields, word-fits, words-fit-take}
+use Rattle.serial.proofs.Soundness.{EngineFit, engine-fit}
 use Rattle.registers.specs.Model.{Model}
-use Rattle.registers.specs.Settings.{permittedOf}
-use Rattle.registers.specs.Sound.{controlSound, masksSound, queuesSound, soundRegisters, wordsFit, registersFit}
+use Rattle.registers.specs.Sound.{soundRegisters, wordsFit, registersFit}
 use Rattle.registers.specs.declared.fields.Fields.{Fields}
 use Rattle.serial.specs.Cycle.{DeviceModel}
 use Rattle.serial.specs.Lines.{pinsOf, byteOf}
@@ -140,69 +140,6 @@ lines-bits true true true true = refl
 pub lines-back : (l : Lines) → linesFrom (byteOf l) ≡ l
 lines-back l = lines-bits (l .clk) (l .fss) (l .txd) (l .released)
 
--- the numbers of a sound device that fits
-
-pub record FileFits (m : Model) : Type 0 where
-  pub cr0 : m .control .cr0 < 0x10000
-  pub cr1 : m .control .cr1 < 256
-  pub cpsr : m .control .cpsr < 256
-  pub imsc : m .masks .imsc < 256
-  pub dmacr : m .masks .dmacr < 256
-  pub count : m .timeout .count .0 < 0x100000000
-  pub tx : wordsFit (m .tx) ≡ true
-  pub waiting : length (m .tx) ≤ 8
-  pub rx : wordsFit (m .rx) ≡ true
-  pub held : length (m .rx) ≤ 8
-
-pub file-fits : (m : Model) → soundRegisters m ≡ true → registersFit m ≡ true → FileFits m
-unfolding soundRegisters controlSound masksSound queuesSound registersFit
-file-fits m s f =
-    let regs = and-left (controlSound (m .control) && masksSound (m .masks)) _ s in
-    let control = and-left (controlSound (m .control)) _ regs in
-    let masks = and-right (controlSound (m .control)) _ regs in
-    let queues = and-left (queuesSound m) _ (and-right (controlSound (m .control) && masksSound (m .masks)) _ s) in
-    let numbers = and-left ((ltb (m .control .cr0) 0x10000 && ltb (m .control .cpsr) 0x100) && ltb (m .timeout .count .0) 0x100000000) _ f in
-    let words = and-right ((ltb (m .control .cr0) 0x10000 && ltb (m .control .cpsr) 0x100) && ltb (m .timeout .count .0) 0x100000000) _ f in
-    let pair = and-left (ltb (m .control .cr0) 0x10000 && ltb (m .control .cpsr) 0x100) _ numbers in
-    let cr1 = leb-true (m .control .cr1) 15 (and-left (leb (m .control .cr1) 15) _ (and-right ((eqb (m .control .cr0) 0 || permittedOf (m .control .cr0)) && eqb (m .control .cpsr % 2) 0) _ control)) in
-    let imsc = leb-true (m .masks .imsc) 15 (and-left (leb (m .masks .imsc) 15) _ masks) in
-    let dmacr = leb-true (m .masks .dmacr) 3 (and-right (leb (m .masks .imsc) 15) _ masks) in
-    record {
-      cr0 = ltb-true (m .control .cr0) 0x10000 (and-left (ltb (m .control .cr0) 0x10000) _ pair);
-      cr1 = omega arith;
-      cpsr = ltb-true (m .control .cpsr) 0x100 (and-right (ltb (m .control .cr0) 0x10000) _ pair);
-      imsc = omega arith;
-      dmacr = omega arith;
-      count = ltb-true (m .timeout .count .0) 0x100000000 (and-right (ltb (m .control .cr0) 0x10000 && ltb (m .control .cpsr) 0x100) _ numbers);
-      tx = and-left (wordsFit (m .tx)) _ words;
-      waiting = leb-true (length (m .tx)) 8 (and-left (leb (length (m .tx)) 8) _ queues);
-      rx = and-right (wordsFit (m .tx)) _ words;
-      held = leb-true (length (m .rx)) 8 (and-right (leb (length (m .tx)) 8) _ queues);
-    }
-
-pub record EngineFits (e : Engine) : Type 0 where
-  pub slot : e .slot .0 < 256
-  pub gone : e .gone .0 < 0x10000
-  pub captured : e .shift .captured < 256
-  pub sending : e .shift .sending < 0x10000
-  pub receiving : e .shift .receiving < 0x10000
-
-pub engine-fits : (d : DeviceModel) → deviceFits d ≡ true → EngineFits (d .engine)
-unfolding deviceFits
-engine-fits d f =
-    let e = d .engine in
-    let all = and-right (registersFit (d .registers)) _ f in
-    let counts = and-left ((ltb (e .slot .0) 0x100 && ltb (e .gone .0) 0x10000) && ltb (e .shift .captured) 0x100) _ all in
-    let words = and-right ((ltb (e .slot .0) 0x100 && ltb (e .gone .0) 0x10000) && ltb (e .shift .captured) 0x100) _ all in
-    let pair = and-left (ltb (e .slot .0) 0x100 && ltb (e .gone .0) 0x10000) _ counts in
-    record {
-      slot = ltb-true (e .slot .0) 0x100 (and-left (ltb (e .slot .0) 0x100) _ pair);
-      gone = ltb-true (e .gone .0) 0x10000 (and-right (ltb (e .slot .0) 0x100) _ pair);
-      captured = ltb-true (e .shift .captured) 0x100 (and-right (ltb (e .slot .0) 0x100 && ltb (e .gone .0) 0x10000) _ counts);
-      sending = ltb-true (e .shift .sending) 0x10000 (and-left (ltb (e .shift .sending) 0x10000) _ words);
-      receiving = ltb-true (e .shift .receiving) 0x10000 (and-right (ltb (e .shift .sending) 0x10000) _ words);
-    }
-
 -- what comes from bytes is small
 
 word-small : (x : ℕ) → ltb (joined x) 0x10000 ≡ true
@@ -230,7 +167,7 @@ module _ (m : Model) (e : Engine) (h : History) (l : Lines) where
   fields-back k =
       rw (word-back (m .control .cr0) (k .cr0), byte-back (m .control .cr1) (k .cr1), byte-back (m .control .cpsr) (k .cpsr), byte-back (m .masks .imsc) (k .imsc), byte-back (m .masks .dmacr) (k .dmacr), long-back (m .timeout .count .0) (k .count), flag-back (m .ror), flag-back (m .timeout .rt), places-back (m .tx) (k .tx), places-back (m .rx) (k .rx))
 
-  engine-back : EngineFits e → engineAt parts ≡ e
+  engine-back : EngineFit e → engineAt parts ≡ e
   unfolding stateBytes registerBytes engineBytes levelBytes countBytes engineAt wordAt flagAt
   engine-back k =
       rw (byte-back (e .slot .0) (k .slot), word-back (e .gone .0) (k .gone), byte-back (e .shift .captured) (k .captured), word-back (e .shift .sending) (k .sending), word-back (e .shift .receiving) (k .receiving), flag-back (e .frame), flag-back (e .selected), flag-back (e .mark), flag-back (e .shift .level))
@@ -264,7 +201,7 @@ pub decode-encode : (d : DeviceModel) → soundDevice d ≡ true → deviceFits 
 unfolding soundDevice deviceFits encodeOf decodeOf
 decode-encode d s f =
     let file = file-fits (d .registers) (and-left (soundRegisters (d .registers)) _ s) (and-left (registersFit (d .registers)) _ f) in
-    rw (fields-back (d .registers) (d .engine) (d .pins) (d .lines) file, engine-back (d .registers) (d .engine) (d .pins) (d .lines) (engine-fits d f), history-back (d .registers) (d .engine) (d .pins) (d .lines), levels-back (d .registers) (d .engine) (d .pins) (d .lines), model-fields (d .registers) (file .waiting) (file .held))
+    rw (fields-back (d .registers) (d .engine) (d .pins) (d .lines) file, engine-back (d .registers) (d .engine) (d .pins) (d .lines) (engine-fit d f), history-back (d .registers) (d .engine) (d .pins) (d .lines), levels-back (d .registers) (d .engine) (d .pins) (d .lines), model-fields (d .registers) (file .waiting) (file .held))
 
 fits-encoded : (d : DeviceModel) → deviceFits (decodeOf (encodeOf d)) ≡ true
 unfolding deviceFits encodeOf decodeOf

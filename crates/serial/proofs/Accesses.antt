@@ -1,7 +1,7 @@
--- The refusal numbers of an access itself are at most 8.
+-- Accesses to a device: their refusal numbers are at most 8, and a refused one changes nothing.
 use Prim.Native.Nat.{ℕ, _≤_}
-use mathlib.Core.Path.{_≡_, refl, sym, _∙_}
-use mathlib.Core.Bool.{Bool, true, false, not, _&&_, _||_}
+use mathlib.Core.Path.{_≡_, refl, sym, ap, _∙_}
+use mathlib.Core.Bool.{Bool, true, false, not, _&&_, _||_, true≢false}
 use native.Mathlib.Omega.{arith}
 use lib.ListN.{length}
 use lib.Dec.{leb, eqb}
@@ -10,12 +10,15 @@ use Rattle.registers.specs.Refusals.{firstOf, refusalOf}
 use Rattle.registers.specs.Model.{Model}
 use Rattle.registers.specs.Offsets.{placeOf}
 use Rattle.registers.specs.Settings.{enabledOf, permittedOf}
-use Rattle.registers.specs.Access.{readRefusal, readWord, readAnswer, bitsBeyond, writeAccess, cr0Rule, cr1Rule, cpsrRule, drRule, writeRule, writeRefusal}
+use Rattle.registers.specs.Access.{readRefusal, readWord, readDone, readModel, writeDone, writeModel, readAnswer, bitsBeyond, writeAccess, cr0Rule, cr1Rule, cpsrRule, drRule, writeRule, writeRefusal}
 use Rattle.registers.specs.declared.access.Answer.the-variants.{Word, Refused}
 use Rattle.registers.specs.declared.offsets.Place.{Place}
 use Rattle.registers.specs.declared.offsets.Place.the-variants.{Cr0, Cr1, Dr, Sr, Cpsr, Imsc, Ris, Mis, Icr, Dmacr, Identity, Reserved, Outside}
 use Rattle.serial.specs.Cycle.{DeviceModel}
-use Rattle.serial.specs.Access.{readAnswerOf, writeRefusalOf}
+use Rattle.registers.proofs.Picks.{pick-no}
+use Rattle.serial.specs.Engine.{cleared}
+use Rattle.serial.specs.Access.{readAnswerOf, readDevice, writeRefusalOf, engineAfter, writeDevice}
+use Rattle.serial.specs.declared.engine.Engine.{Engine}
 
 pick-most : (t : Bool) (a b : ℕ) → a ≤ 8 → b ≤ 8 → pick t a b ≤ 8
 pick-most true a b p q = p
@@ -87,3 +90,38 @@ unfolding writeRefusalOf writeRefusal
 write-most d o v =
     let a = writeAccess (placeOf o) v in
     pick-most (eqb a 0) (writeRule (d .registers) (placeOf o) v) a (write-rule-most (d .registers) (placeOf o) v) (write-access-most (placeOf o) v)
+
+-- A read is never refused with 0.
+refused-some : (t : Bool) (x w k : ℕ) → eqb x 0 ≡ t → pick t (Word w) (Refused x) ≡ Refused k → eqb k 0 ≡ false
+refused-some true x w k q e = absurd (let z : _≡_ {A = ℕ} 0 1 = cc in omega arith)
+refused-some false x w k q e = let z : x ≡ k = cc in rw z at q
+
+pub refused-read : (d : DeviceModel) (o k : ℕ) → readAnswerOf d o ≡ Refused k → eqb k 0 ≡ false
+unfolding readAnswerOf readAnswer
+refused-read d o k e = refused-some (eqb (readRefusal (d .registers) (placeOf o)) 0) (readRefusal (d .registers) (placeOf o)) (readWord (d .registers) (d .engine .frame) (placeOf o)) k refl e
+
+-- A refused access changes nothing ------------------------------------------------------------------------------------
+
+pub read-same : (d : DeviceModel) (o : ℕ) → eqb (refusalOf (readAnswerOf d o)) 0 ≡ false → readDevice d o ≡ d
+unfolding readAnswerOf readAnswer readDevice readModel
+read-same d o h = go (eqb (readRefusal (d .registers) (placeOf o)) 0) h
+  where
+    go : (t : Bool) → eqb (refusalOf (pick t (Word (readWord (d .registers) (d .engine .frame) (placeOf o))) (Refused (readRefusal (d .registers) (placeOf o))))) 0 ≡ false
+        → _≡_ {A = DeviceModel} (record { registers = pick t (readDone (d .registers) (placeOf o)) (d .registers); engine = d .engine; pins = d .pins; lines = d .lines }) d
+    go true k = absurd (true≢false k)
+    go false k = refl
+
+same-engine : (m : Model) (e : Engine) → engineAfter m m e ≡ e
+unfolding engineAfter
+same-engine m e = go (enabledOf (m .control))
+  where
+    go : (t : Bool) → pick (t && not t) cleared e ≡ e
+    go true = refl
+    go false = refl
+
+pub write-same : (d : DeviceModel) (o v : ℕ) → eqb (writeRefusalOf d o v) 0 ≡ false → writeDevice d o v ≡ d
+unfolding writeRefusalOf writeDevice writeModel
+write-same d o v h =
+    let m = d .registers in
+    ap (λ (x : Model). record { registers = x; engine = engineAfter m x (d .engine); pins = d .pins; lines = d .lines }) (pick-no (writeDone m (placeOf o) v) m h)
+    ∙ ap (λ (e : Engine). record { registers = m; engine = e; pins = d .pins; lines = d .lines }) (same-engine m (d .engine))
