@@ -13,19 +13,19 @@ use Rattle.registers.specs.Refusals.{refusalOf}
 use Rattle.registers.specs.declared.access.Answer.{Answer}
 use Rattle.registers.specs.declared.access.Answer.the-variants.{Word, Refused}
 use Rattle.serial.specs.Cycle.{DeviceModel, deviceOf, resetDevice}
-use Rattle.serial.specs.Access.{readAnswerOf, readDevice, writeRefusalOf, writeDevice, ReadAs, WrittenAs}
+use Rattle.serial.specs.Access.{readAnswerOf, readDevice, writeRefusalOf, writeDevice, Read, Write}
 use Rattle.serial.proofs.Accesses.{refused-read}
-use Rattle.device_record.specs.Record.{encodeOf, encodedIn, decodeOf, soundBytes}
-use Rattle.device_record.specs.Run.{after, outputs, inputsFit, stopsOn, countUntil, written, served, RanAs, runRefusal}
+use Rattle.device_record.specs.Record.{encoded, encode, decode, soundBytes}
+use Rattle.device_record.specs.Run.{afterBytes, outputs, inputsFit, stopsOn, countUntil, written, served, RunUntil, runRefusal}
 use Rattle.device_record.specs.Calls.{leftBy, resetRefusal, recordRefusal, readCall, writeCall, runCount, runLeft, runOutput, ResetCall, ReadCall, WriteCall, RunCall, pairRefusal, pairAfter, PairCall}
-use Rattle.serial.specs.Pair.{PairModel, later, pairOf}
+use Rattle.serial.specs.Pair.{PairModel, pairRun, pairOf}
 use Rattle.serial.specs.declared.pair.Wired.{Wired}
 use Rattle.serial.specs.declared.Device.{Device}
 use Rattle.serial.specs.declared.access.Reading.{Reading}
 use Rattle.serial.specs.declared.access.Written.{Written}
 use Rattle.device_record.specs.declared.run.Ran.{Ran}
-use Rattle.device_record.specs.declared.run.Rule.{Rule}
-use Rattle.device_record.specs.declared.run.Rule.the-variants.{Never}
+use Rattle.device_record.specs.declared.run.Stop.{Stop}
+use Rattle.device_record.specs.declared.run.Stop.the-variants.{Never}
 use Rattle.device_record.proofs.Runs.{count-never, served-all, written-all}
 
 -- Of a list of refusals none is given: the first test passed, and none of the others refuses.
@@ -34,8 +34,8 @@ passes true k r h e = (refl, e)
 passes false k r h e = absurd (omega arith)
 
 -- The bytes that `encode` leaves in a record of the right length.
-stored : (b b′ : List ℕ) (d m : DeviceModel) → eqb (length b) 128 ≡ true → b′ ≡ encodedIn d b → d ≡ m → b′ ≡ encodeOf m
-unfolding encodedIn
+stored : (b b′ : List ℕ) (d m : DeviceModel) → eqb (length b) 128 ≡ true → b′ ≡ encode d b → d ≡ m → b′ ≡ encoded m
+unfolding encode
 stored b b′ d m l e h = e ∙ rw (l, h)
 
 -- Reset ----------------------------------------------------------------------------------------------------------------
@@ -45,7 +45,7 @@ unfolding resetRefusal
 reset-passes b z = passes (eqb (length b) 128) 10 0 (omega arith) z .0
 
 module _ (b : List ℕ) (n : ℕ) (e : n ≡ resetRefusal b) where
-  pub reset-done : (b′ : List ℕ) (d : DeviceModel) → eqb n 0 ≡ true → d ≡ resetDevice → b′ ≡ encodedIn d b → ResetCall b 0 b′
+  pub reset-done : (b′ : List ℕ) (d : DeviceModel) → eqb n 0 ≡ true → d ≡ resetDevice → b′ ≡ encode d b → ResetCall b 0 b′
   reset-done b′ d t h k =
       let z : resetRefusal b ≡ 0 = sym e ∙ eqb-true n 0 t in
       record { refusal = sym z; left = rw z (stored b b′ d resetDevice (reset-passes b z) k h) }
@@ -60,41 +60,41 @@ unfolding recordRefusal
 record-passes b z = passes (eqb (length b) 128) 10 (pick (not (soundBytes b)) 9 0) (omega arith) z .0
 
 module _ (b : List ℕ) (o n : ℕ) (e : n ≡ recordRefusal b) where
-  read-answer : (a : Answer) → eqb n 0 ≡ true → readAnswerOf (decodeOf b) o ≡ a → readCall b o ≡ a
+  read-answer : (a : Answer) → eqb n 0 ≡ true → readAnswerOf (decode b) o ≡ a → readCall b o ≡ a
   unfolding readCall
   read-answer a t h = rw (← e, t) h
 
-  module _ (s : Device) (r : Reading) (h : deviceOf s ≡ decodeOf b) (g : ReadAs (deviceOf s) o r) (t : eqb n 0 ≡ true) where
-    pub read-done : (b′ : List ℕ) (w : ℕ) → r .answer ≡ Word w → b′ ≡ encodedIn (deviceOf (r .device)) b → ReadCall b o (Word w) b′
+  module _ (s : Device) (r : Reading) (h : deviceOf s ≡ decode b) (g : Read (deviceOf s) o r) (t : eqb n 0 ≡ true) where
+    pub read-done : (b′ : List ℕ) (w : ℕ) → r .answer ≡ Word w → b′ ≡ encode (deviceOf (r .device)) b → ReadCall b o (Word w) b′
     read-done b′ w q k =
         let a = read-answer (Word w) t (rw (← h) (sym (g .answer) ∙ q)) in
         let l = record-passes b (sym e ∙ eqb-true n 0 t) in
-        record { answer = sym a; left = rw a (stored b b′ (deviceOf (r .device)) (readDevice (decodeOf b) o) l k (rw (← h) (g .device))) }
+        record { answer = sym a; left = rw a (stored b b′ (deviceOf (r .device)) (readDevice (decode b) o) l k (rw (← h) (g .device))) }
 
     pub read-refused : (k : ℕ) → r .answer ≡ Refused k → ReadCall b o (r .answer) b
     read-refused k q =
-        let p : readAnswerOf (decodeOf b) o ≡ Refused k = rw (← h) (sym (g .answer) ∙ q) in
+        let p : readAnswerOf (decode b) o ≡ Refused k = rw (← h) (sym (g .answer) ∙ q) in
         let a = read-answer (Refused k) t p in
-        record { answer = q ∙ sym a; left = rw (a, refused-read (decodeOf b) o k p) }
+        record { answer = q ∙ sym a; left = rw (a, refused-read (decode b) o k p) }
 
   pub read-unserved : eqb n 0 ≡ false → ReadCall b o (Refused n) b
   unfolding readCall
   read-unserved f = record { answer = rw (← e, f); left = rw (← e, f, f) }
 
 module _ (b : List ℕ) (o v n : ℕ) (e : n ≡ recordRefusal b) where
-  write-number : eqb n 0 ≡ true → writeCall b o v ≡ writeRefusalOf (decodeOf b) o v
+  write-number : eqb n 0 ≡ true → writeCall b o v ≡ writeRefusalOf (decode b) o v
   unfolding writeCall
   write-number t = rw (← e, t)
 
-  module _ (s : Device) (r : Written) (h : deviceOf s ≡ decodeOf b) (g : WrittenAs (deviceOf s) o v r) (t : eqb n 0 ≡ true) where
+  module _ (s : Device) (r : Written) (h : deviceOf s ≡ decode b) (g : Write (deviceOf s) o v r) (t : eqb n 0 ≡ true) where
     write-refusal : r .refusal ≡ writeCall b o v
     write-refusal = (rw h at (g .refusal)) ∙ sym (write-number t)
 
-    pub write-done : (b′ : List ℕ) → eqb (r .refusal) 0 ≡ true → b′ ≡ encodedIn (deviceOf (r .device)) b → WriteCall b o v 0 b′
+    pub write-done : (b′ : List ℕ) → eqb (r .refusal) 0 ≡ true → b′ ≡ encode (deviceOf (r .device)) b → WriteCall b o v 0 b′
     write-done b′ q k =
         let z : writeCall b o v ≡ 0 = sym write-refusal ∙ eqb-true (r .refusal) 0 q in
         let l = record-passes b (sym e ∙ eqb-true n 0 t) in
-        record { refusal = sym z; left = rw z (stored b b′ (deviceOf (r .device)) (writeDevice (decodeOf b) o v) l k (rw (← h) (g .device))) }
+        record { refusal = sym z; left = rw z (stored b b′ (deviceOf (r .device)) (writeDevice (decode b) o v) l k (rw (← h) (g .device))) }
 
     pub write-refused : eqb (r .refusal) 0 ≡ false → WriteCall b o v (r .refusal) b
     write-refused q = record { refusal = write-refusal; left = rw (← write-refusal, q) }
@@ -112,9 +112,9 @@ run-passes b i o z =
     let q = passes (eqb (length i) (length o)) 11 (pick (not (inputsFit i)) 12 (pick (not (soundBytes b)) 9 0)) (omega arith) (p .1) in
     (p .0, eqb-true (length i) (length o) (q .0))
 
-module _ (rule : Rule) (b i o : List ℕ) (n : ℕ) (e : n ≡ runRefusal b i o) where
-  pub run-done : (s : Device) (r : Ran) → deviceOf s ≡ decodeOf b → (b′ o′ : List ℕ) → eqb n 0 ≡ true → b′ ≡ encodedIn (deviceOf (r .device)) b
-      → RanAs (stopsOn rule) (deviceOf s) i o r o′ → RunCall rule b i o (record { refusal = 0; count = r .count }) b′ o′
+module _ (stop : Stop) (b i o : List ℕ) (n : ℕ) (e : n ≡ runRefusal b i o) where
+  pub run-done : (s : Device) (r : Ran) → deviceOf s ≡ decode b → (b′ o′ : List ℕ) → eqb n 0 ≡ true → b′ ≡ encode (deviceOf (r .device)) b
+      → RunUntil (stopsOn stop) (deviceOf s) i o r o′ → RunCall stop b i o (record { refusal = 0; count = r .count }) b′ o′
   unfolding runCount
   run-done s r h b′ o′ t k g =
       let z : runRefusal b i o ≡ 0 = sym e ∙ eqb-true n 0 t in
@@ -123,32 +123,32 @@ module _ (rule : Rule) (b i o : List ℕ) (n : ℕ) (e : n ≡ runRefusal b i o)
       record {
         refusal = sym z;
         count = rw z (g .count ∙ rw (a, h));
-        left = rw z (stored b b′ (deviceOf (r .device)) (after (decodeOf b) (take (countUntil (stopsOn rule) (decodeOf b) i) i)) (p .0) k (g .device ∙ rw (a, h)));
+        left = rw z (stored b b′ (deviceOf (r .device)) (afterBytes (decode b) (take (countUntil (stopsOn stop) (decode b) i) i)) (p .0) k (g .device ∙ rw (a, h)));
         output = rw z (g .output ∙ rw (a, h));
       }
 
-  pub run-unserved : eqb n 0 ≡ false → RunCall rule b i o (record { refusal = n; count = 0 }) b o
+  pub run-unserved : eqb n 0 ≡ false → RunCall stop b i o (record { refusal = n; count = 0 }) b o
   unfolding runCount
   run-unserved f = record { refusal = e; count = rw (← e, f); left = rw (← e, f); output = rw (← e, f) }
 
--- A run without a stopping rule runs a cycle for each input byte.
+-- A run without a stopping stop runs a cycle for each input byte.
 module _ (b i o : List ℕ) where
   count-all : (n : ℕ) → runRefusal b i o ≡ n → eqb n 0 ≡ true → runCount Never b i o ≡ length i
   unfolding runCount
-  count-all n e t = rw (e, t) (count-never (decodeOf b) i)
+  count-all n e t = rw (e, t) (count-never (decode b) i)
 
-  pub run-all : runLeft Never b i o ≡ leftBy (runRefusal b i o) (after (decodeOf b) i) b
+  pub run-all : runLeft Never b i o ≡ leftBy (runRefusal b i o) (afterBytes (decode b) i) b
   run-all = go (eqb (runRefusal b i o) 0) refl
     where
-      go : (t : Bool) → eqb (runRefusal b i o) 0 ≡ t → pick t (encodeOf (after (decodeOf b) (take (runCount Never b i o) i))) b ≡ pick t (encodeOf (after (decodeOf b) i)) b
+      go : (t : Bool) → eqb (runRefusal b i o) 0 ≡ t → pick t (encoded (afterBytes (decode b) (take (runCount Never b i o) i))) b ≡ pick t (encoded (afterBytes (decode b) i)) b
       go true k = rw (count-all (runRefusal b i o) refl k, take-length i)
       go false k = refl
 
-  pub output-all : runOutput Never b i o ≡ pick (eqb (runRefusal b i o) 0) (outputs (decodeOf b) i) o
+  pub output-all : runOutput Never b i o ≡ pick (eqb (runRefusal b i o) 0) (outputs (decode b) i) o
   output-all = go (eqb (runRefusal b i o) 0) refl
     where
-      go : (t : Bool) → eqb (runRefusal b i o) 0 ≡ t → pick t (written (decodeOf b) (runCount Never b i o) i o) o ≡ pick t (outputs (decodeOf b) i) o
-      go true k = rw (count-all (runRefusal b i o) refl k) (written-all (decodeOf b) i o (run-passes b i o (eqb-true (runRefusal b i o) 0 k) .1))
+      go : (t : Bool) → eqb (runRefusal b i o) 0 ≡ t → pick t (written (decode b) (runCount Never b i o) i o) o ≡ pick t (outputs (decode b) i) o
+      go true k = rw (count-all (runRefusal b i o) refl k) (written-all (decode b) i o (run-passes b i o (eqb-true (runRefusal b i o) 0 k) .1))
       go false k = refl
 
 -- Pairs ----------------------------------------------------------------------------------------------------------------
@@ -159,17 +159,17 @@ either true false k r h e = absurd (omega arith)
 either false t k r h e = absurd (omega arith)
 
 module _ (one two : List ℕ) (n : ℕ) (e : n ≡ pairRefusal one two) where
-  pub pair-done : (cycles : ℕ) (one′ two′ : List ℕ) (p : PairModel) (w : Wired) → eqb n 0 ≡ true → pairOf w ≡ later cycles p → p ≡ record { first = decodeOf one; second = decodeOf two }
-      → one′ ≡ encodedIn (deviceOf (w .first)) one → two′ ≡ encodedIn (deviceOf (w .second)) two → PairCall one two cycles 0 one′ two′
+  pub pair-done : (cycles : ℕ) (one′ two′ : List ℕ) (p : PairModel) (w : Wired) → eqb n 0 ≡ true → pairOf w ≡ pairRun cycles p → p ≡ record { first = decode one; second = decode two }
+      → one′ ≡ encode (deviceOf (w .first)) one → two′ ≡ encode (deviceOf (w .second)) two → PairCall one two cycles 0 one′ two′
   unfolding pairRefusal pairAfter pairOf
   pair-done cycles one′ two′ p w t h s j k =
       let z : pairRefusal one two ≡ 0 = sym e ∙ eqb-true n 0 t in
       let l = either (eqb (length one) 128) (eqb (length two) 128) 10 (pick (not (soundBytes one) || not (soundBytes two)) 9 0) (omega arith) z in
-      let g : pairOf w ≡ pairAfter one two cycles = h ∙ ap (later cycles) s in
+      let g : pairOf w ≡ pairAfter one two cycles = h ∙ ap (pairRun cycles) s in
       record {
         refusal = sym z;
-        first = stored one one′ (deviceOf (w .first)) (pairAfter one two cycles .first) (l .0) j (ap (λ (x : PairModel). x .first) g) ∙ sym (ap (λ (r : ℕ). pick (eqb r 0) (encodeOf (pairAfter one two cycles .first)) one) z);
-        second = stored two two′ (deviceOf (w .second)) (pairAfter one two cycles .second) (l .1) k (ap (λ (x : PairModel). x .second) g) ∙ sym (ap (λ (r : ℕ). pick (eqb r 0) (encodeOf (pairAfter one two cycles .second)) two) z);
+        first = stored one one′ (deviceOf (w .first)) (pairAfter one two cycles .first) (l .0) j (ap (λ (x : PairModel). x .first) g) ∙ sym (ap (λ (r : ℕ). pick (eqb r 0) (encoded (pairAfter one two cycles .first)) one) z);
+        second = stored two two′ (deviceOf (w .second)) (pairAfter one two cycles .second) (l .1) k (ap (λ (x : PairModel). x .second) g) ∙ sym (ap (λ (r : ℕ). pick (eqb r 0) (encoded (pairAfter one two cycles .second)) two) z);
       }
 
   pub pair-refused : (cycles : ℕ) → eqb n 0 ≡ false → PairCall one two cycles n one two

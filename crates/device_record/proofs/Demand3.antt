@@ -14,17 +14,16 @@ use Rattle.serial.specs.Access.{readAnswerOf, readDevice, writeRefusalOf, write
 use Rattle.serial.proofs.Accesses.{read-same, write-same}
 use Rattle.serial.specs.Sound.{soundDevice, deviceFits}
 use Rattle.serial.proofs.Soundness.{sound-read, fits-read, sound-write, fits-write}
-use Rattle.device_record.specs.Record.{encodeOf, decodeOf, soundBytes}
+use Rattle.device_record.specs.Record.{encoded, decode, soundBytes}
 use Rattle.device_record.proofs.RoundTrip.{length-sound, decode-encode, decode-injective, sound-encode, sound-decode, fits-decode}
-use Rattle.serial.specs.Pair.{PairModel, pairCycle, later}
+use Rattle.serial.specs.Pair.{PairModel, pairCycle, pairRun}
 use Rattle.serial.proofs.Exchange.Claim.{demand3}
-use Rattle.serial.specs.Drawing.{recording}
-use Rattle.serial.proofs.Drawing.Enabled.{enabling-told}
+use Rattle.serial.proofs.Drawing.Enabled.{enabling-injective}
 use Rattle.serial.specs.Slots.{widthOf}
 use Rattle.registers.specs.declared.settings.Settings.{Settings}
 use Rattle.serial.specs.Lines.{pinsOf, byteOf}
-use Rattle.device_record.specs.Run.{steppedOf, outputs}
-use Rattle.device_record.proofs.Histories.{good-decode, good-later}
+use Rattle.device_record.specs.Run.{outputs}
+use Rattle.device_record.proofs.Histories.{good-decode, good-pair-run}
 use Rattle.device_record.specs.Calls.{leftBy, recordRefusal, readCall, readLeft, writeCall, writeLeft, pairRefusal, pairAfter, Records}
 use Rattle.device_record.specs.Demand3.{devicesOf, runBytes, playBytes, playsBytes, SoundRecords, steps, ExchangedRecords, Demand3Records, LastSentenceRecords}
 use Rattle.serial.specs.Bits.{cut}
@@ -37,12 +36,12 @@ use Rattle.serial.specs.Demand3.Step.{read, write}
 -- what a call leaves is sound, and stands for the device that the call means
 record Left (b : List ℕ) (d : DeviceModel) : Type 0 where
   sound : soundBytes b ≡ true
-  is : decodeOf b ≡ d
+  is : decode b ≡ d
 
-left-is : (n : ℕ) (d : DeviceModel) (b : List ℕ) → soundBytes b ≡ true → soundDevice d ≡ true → deviceFits d ≡ true → (eqb n 0 ≡ false → d ≡ decodeOf b) → Left (leftBy n d b) d
+left-is : (n : ℕ) (d : DeviceModel) (b : List ℕ) → soundBytes b ≡ true → soundDevice d ≡ true → deviceFits d ≡ true → (eqb n 0 ≡ false → d ≡ decode b) → Left (leftBy n d b) d
 left-is n d b s sd fd same = go (eqb n 0) refl
   where
-    go : (t : Bool) → eqb n 0 ≡ t → Left (pick t (encodeOf d) b) d
+    go : (t : Bool) → eqb n 0 ≡ t → Left (pick t (encoded d) b) d
     go true e = record { sound = sound-encode d sd fd; is = decode-encode d sd fd }
     go false e = record { sound = s; is = sym (same e) }
 
@@ -55,17 +54,17 @@ pair-done : (b c : List ℕ) → soundBytes b ≡ true → soundBytes c ≡ true
 unfolding pairRefusal
 pair-done b c s t = rw (eq-eqb (length b) 128 (length-sound b s), eq-eqb (length c) 128 (length-sound c t), s, t)
 
-read-left : (b : List ℕ) (o : ℕ) → soundBytes b ≡ true → Left (readLeft b o) (readDevice (decodeOf b) o)
+read-left : (b : List ℕ) (o : ℕ) → soundBytes b ≡ true → Left (readLeft b o) (readDevice (decode b) o)
 unfolding readCall
 read-left b o s =
-    let d = decodeOf b in
+    let d = decode b in
     left-is (refusalOf (readCall b o)) (readDevice d o) b s (sound-read d o (sound-decode b s)) (fits-read d o (fits-decode b s))
     (λ k. read-same d o (ap (λ (r : ℕ). eqb (refusalOf (pick (eqb r 0) (readAnswerOf d o) (Refused r))) 0) (sym (record-done b s)) ∙ k))
 
-write-left : (b : List ℕ) (o v : ℕ) → soundBytes b ≡ true → Left (writeLeft b o v) (writeDevice (decodeOf b) o v)
+write-left : (b : List ℕ) (o v : ℕ) → soundBytes b ≡ true → Left (writeLeft b o v) (writeDevice (decode b) o v)
 unfolding writeCall
 write-left b o v s =
-    let d = decodeOf b in
+    let d = decode b in
     left-is (writeCall b o v) (writeDevice d o v) b s (sound-write d o v (sound-decode b s)) (fits-write d o v (fits-decode b s))
     (λ k. write-same d o v (ap (λ (r : ℕ). eqb (firstOf r (writeRefusalOf d o v)) 0) (sym (record-done b s)) ∙ k))
 
@@ -75,30 +74,30 @@ record Played (r : Records) (p : PairModel) : Type 0 where
   sound : SoundRecords r
   is : devicesOf r ≡ p
 
-run-played : (n : ℕ) (r : Records) → SoundRecords r → Played (runBytes n r) (later n (devicesOf r))
+run-played : (n : ℕ) (r : Records) → SoundRecords r → Played (runBytes n r) (pairRun n (devicesOf r))
 unfolding pairAfter
 run-played n r s =
     let p = devicesOf r in
-    let g = good-later n p (good-decode (r .one) (s .one)) (good-decode (r .two) (s .two)) in
+    let g = good-pair-run n p (good-decode (r .one) (s .one)) (good-decode (r .two) (s .two)) in
     let z = pair-done (r .one) (r .two) (s .one) (s .two) in
-    let l = left-is (pairRefusal (r .one) (r .two)) (later n p .first) (r .one) (s .one) (g .0 .sound) (g .0 .fits) (λ k. absurd (true≢false (ap (λ (i : ℕ). eqb i 0) (sym z) ∙ k))) in
-    let m = left-is (pairRefusal (r .one) (r .two)) (later n p .second) (r .two) (s .two) (g .1 .sound) (g .1 .fits) (λ k. absurd (true≢false (ap (λ (i : ℕ). eqb i 0) (sym z) ∙ k))) in
+    let l = left-is (pairRefusal (r .one) (r .two)) (pairRun n p .first) (r .one) (s .one) (g .0 .sound) (g .0 .fits) (λ k. absurd (true≢false (ap (λ (i : ℕ). eqb i 0) (sym z) ∙ k))) in
+    let m = left-is (pairRefusal (r .one) (r .two)) (pairRun n p .second) (r .two) (s .two) (g .1 .sound) (g .1 .fits) (λ k. absurd (true≢false (ap (λ (i : ℕ). eqb i 0) (sym z) ∙ k))) in
     record { sound = record { one = l .sound; two = m .sound }; is = ap₂ (λ (a b : DeviceModel). record { first = a; second = b }) (l .is) (m .is) }
 
 step-played : (x : Step) (r : Records) → SoundRecords r → Played (playBytes x r) (play x (devicesOf r))
 step-played Step.cycle r s = run-played 1 r s
 step-played (read master o) r s =
     let l = read-left (r .one) o (s .one) in
-    record { sound = record { one = l .sound; two = s .two }; is = ap (λ (a : DeviceModel). record { first = a; second = decodeOf (r .two) }) (l .is) }
+    record { sound = record { one = l .sound; two = s .two }; is = ap (λ (a : DeviceModel). record { first = a; second = decode (r .two) }) (l .is) }
 step-played (read slave o) r s =
     let l = read-left (r .two) o (s .two) in
-    record { sound = record { one = s .one; two = l .sound }; is = ap (λ (a : DeviceModel). record { first = decodeOf (r .one); second = a }) (l .is) }
+    record { sound = record { one = s .one; two = l .sound }; is = ap (λ (a : DeviceModel). record { first = decode (r .one); second = a }) (l .is) }
 step-played (write master o v) r s =
     let l = write-left (r .one) o v (s .one) in
-    record { sound = record { one = l .sound; two = s .two }; is = ap (λ (a : DeviceModel). record { first = a; second = decodeOf (r .two) }) (l .is) }
+    record { sound = record { one = l .sound; two = s .two }; is = ap (λ (a : DeviceModel). record { first = a; second = decode (r .two) }) (l .is) }
 step-played (write slave o v) r s =
     let l = write-left (r .two) o v (s .two) in
-    record { sound = record { one = s .one; two = l .sound }; is = ap (λ (a : DeviceModel). record { first = decodeOf (r .one); second = a }) (l .is) }
+    record { sound = record { one = s .one; two = l .sound }; is = ap (λ (a : DeviceModel). record { first = decode (r .one); second = a }) (l .is) }
 
 -- Playing on the bytes is playing on the devices, and no record on the way is unsound.
 pub plays-sound : (xs : List Step) (r : Records) → SoundRecords r → SoundRecords (playsBytes xs r)
@@ -119,15 +118,15 @@ steps-lead : (pre mid : List Step) (p : PairModel) → plays (steps pre mid p) p
 steps-lead pre mid p = plays-append pre _ p ∙ plays-append mid _ (slaveOn pre p)
 
 -- A pair run of n cycles leaves the bytes that n runs of one cycle leave.
-plays-later : (n : ℕ) (p : PairModel) → plays (replicate n Step.cycle) p ≡ later n p
-plays-later zero p = refl
-plays-later (suc n) p = plays-later n (pairCycle p)
+plays-pair-run : (n : ℕ) (p : PairModel) → plays (replicate n Step.cycle) p ≡ pairRun n p
+plays-pair-run zero p = refl
+plays-pair-run (suc n) p = plays-pair-run n (pairCycle p)
 
 pub run-is-cycles : (n : ℕ) (r : Records) → SoundRecords r → runBytes n r ≡ playsBytes (replicate n Step.cycle) r
 run-is-cycles n r s =
     let one-run = run-played n r s in
     let many = plays-sound (replicate n Step.cycle) r s in
-    let same = one-run .is ∙ sym (plays-devices (replicate n Step.cycle) r s ∙ plays-later n (devicesOf r)) in
+    let same = one-run .is ∙ sym (plays-devices (replicate n Step.cycle) r s ∙ plays-pair-run n (devicesOf r)) in
     ap₂ (λ (a b : List ℕ). record { one = a; two = b })
     (decode-injective _ _ (one-run .sound .one) (many .one) (ap (λ (q : PairModel). q .first) same))
     (decode-injective _ _ (one-run .sound .two) (many .two) (ap (λ (q : PairModel). q .second) same))
@@ -142,21 +141,16 @@ demand3-records r pre mid s st four z z′ =
       after = λ n. run-played n (playsBytes (steps pre mid (devicesOf r)) r) left .is;
     }
 
--- The output bytes of a run are the recording of the last sentence.
-pub outputs-recording : (d : DeviceModel) (ins : List ℕ) → outputs d ins ≡ map byteOf (recording d (map pinsOf ins))
-unfolding outputs steppedOf
-outputs-recording d [] = refl
-outputs-recording d (p ∷ ps) = ap (λ (t : List ℕ). byteOf (cycleOf d (pinsOf p) .lines) ∷ t) (outputs-recording (cycleOf d (pinsOf p)) ps)
-
 -- The last sentence.
 pub last-sentence-records : LastSentenceRecords
+unfolding outputs
 last-sentence-records s b b′ o v o′ v′ sb sb′ e e′ ins ins′ w w′ same =
     let d = write-left b o v sb .is in
     let d′ = write-left b′ o′ v′ sb′ .is in
-    let tell = enabling-told s (decodeOf b) (decodeOf b′) o v o′ v′ e e′ (map pinsOf ins) (map pinsOf ins′) in
+    let tell = enabling-injective s (decode b) (decode b′) o v o′ v′ e e′ (map pinsOf ins) (map pinsOf ins′) in
     let whole = subst (λ (x : DeviceModel). WholeLoad s x (map pinsOf ins)) d w in
     let whole′ = subst (λ (x : DeviceModel). WholeLoad s x (map pinsOf ins′)) d′ w′ in
-    let bytes = sym (ap (λ (x : DeviceModel). outputs x ins) d ∙ outputs-recording (writeDevice (decodeOf b) o v) ins) in
-    let bytes′ = ap (λ (x : DeviceModel). outputs x ins′) d′ ∙ outputs-recording (writeDevice (decodeOf b′) o′ v′) ins′ in
+    let bytes = sym (ap (λ (x : DeviceModel). outputs x ins) d) in
+    let bytes′ = ap (λ (x : DeviceModel). outputs x ins′) d′ in
     let load : DeviceModel → List ℕ = λ (x : DeviceModel). map (cut (widthOf s)) (x .registers .tx) in
     ap load d ∙ (tell whole whole′ (bytes ∙ (same ∙ bytes′)) ∙ sym (ap load d′))

@@ -5,15 +5,15 @@ use mathlib.Core.List.{List, _∷_, _++_}
 use mathlib.Core.Bool.{Bool, true, false}
 use lib.ListN.{set, replicate}
 use Rattle.registers.specs.Time.{cyclesOf}
-use Rattle.registers.specs.Fields.{places, fieldsOf, modelFrom}
-use Rattle.registers.specs.Settings.{formatOf, permittedOf, bitsOf, halfOf, enabledOf, settingsOf}
+use Rattle.registers.specs.Fields.{places, fieldsOf, restored}
+use Rattle.registers.specs.Settings.{formatOf, permittedOf, bitsOf, divisorOf, enabledOf, settingsOf}
 use Rattle.registers.specs.Transfer.{limitOf}
 use Rattle.registers.specs.Sound.{controlSound, masksSound, queuesSound, countSound, soundRegisters}
 use Rattle.serial.specs.Slots.{lastSlot}
 use Rattle.serial.specs.Lines.{pinsOf, byteOf}
 use Rattle.serial.specs.Sound.{stoppedSound, runningSound, engineSound, soundDevice}
 use Rattle.serial.specs.Cycle.{resetDevice}
-use Rattle.device_record.specs.Record.{pinByte, registerBytes, engineBytes, levelBytes, countBytes, stateBytes, wordBytes, queueBytes, encodeOf, wordAt, longAt, flagAt, wordsAt, linesFrom, fieldsAt, engineAt, historyAt, decodeOf, eqList, soundBytes}
+use Rattle.device_record.specs.Record.{pinByte, registerBytes, engineBytes, levelBytes, countBytes, stateBytes, wordBytes, queueBytes, encoded, wordAt, longAt, flagAt, wordsAt, linesFrom, fieldsAt, engineAt, historyAt, decode, eqList, soundBytes}
 
 -- All bytes are 0 but the line byte.
 abbrev pub resetBytes : List ℕ
@@ -24,7 +24,7 @@ abbrev pub changed : ℕ → ℕ → Bool
 changed i x = soundBytes (set resetBytes i x)
 
 pub record ResetExamples : Type 0 where
-  pub bytes : encodeOf resetDevice ≡ resetBytes
+  pub bytes : encoded resetDevice ≡ resetBytes
   pub whole : soundBytes resetBytes ≡ true
   -- DSS 2 is not permitted; SSE with CR0 0; an odd CPSR
   pub format : changed 0 2 ≡ false
@@ -45,7 +45,7 @@ pub record ResetExamples : Type 0 where
   pub free : changed 27 0x0F ≡ true
 
 pub reset-examples : ResetExamples
-unfolding soundBytes eqList encodeOf stateBytes registerBytes engineBytes levelBytes countBytes queueBytes wordBytes fieldsOf modelFrom places pinByte byteOf pinsOf linesFrom decodeOf fieldsAt engineAt historyAt wordAt longAt flagAt wordsAt soundDevice soundRegisters controlSound masksSound queuesSound countSound permittedOf enabledOf limitOf halfOf cyclesOf engineSound runningSound stoppedSound settingsOf formatOf bitsOf lastSlot
+unfolding soundBytes eqList encoded stateBytes registerBytes engineBytes levelBytes countBytes queueBytes wordBytes fieldsOf restored places pinByte byteOf pinsOf linesFrom decode fieldsAt engineAt historyAt wordAt longAt flagAt wordsAt soundDevice soundRegisters controlSound masksSound queuesSound countSound permittedOf enabledOf limitOf divisorOf cyclesOf engineSound runningSound stoppedSound settingsOf formatOf bitsOf lastSlot
 reset-examples =
     record {
       bytes = refl;

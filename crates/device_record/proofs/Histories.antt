@@ -14,37 +14,37 @@ use Rattle.serial.specs.Access.{readDevice, writeDevice}
 use Rattle.serial.specs.Lines.{pinsOf}
 use Rattle.serial.specs.Sound.{soundDevice, deviceFits}
 use Rattle.serial.proofs.Soundness.{sound-reset, sound-read, sound-write, sound-cycle, fits-reset, fits-read, fits-write, fits-cycle}
-use Rattle.device_record.specs.Record.{encodeOf, decodeOf, soundBytes}
+use Rattle.device_record.specs.Record.{encoded, decode, soundBytes}
 use Rattle.device_record.proofs.RoundTrip.{sound-encode, sound-decode, fits-decode}
 use Rattle.serial.proofs.Accesses.{read-most, write-most}
-use Rattle.device_record.specs.Run.{steppedOf, after, inputsFit, runRefusal}
+use Rattle.device_record.specs.Run.{afterBytes, inputsFit, runRefusal}
 use Rattle.device_record.specs.Calls.{leftBy, resetRefusal, resetLeft, recordRefusal, readCall, readLeft, writeCall, writeLeft, runCount, runLeft, pairRefusal, pairAfter, pairLeft, Reached}
-use Rattle.device_record.specs.declared.run.Rule.{Rule}
-use Rattle.serial.specs.Pair.{wire, PairModel, pairCycle, later}
+use Rattle.device_record.specs.declared.run.Stop.{Stop}
+use Rattle.serial.specs.Pair.{wire, PairModel, pairCycle, pairRun}
 
 -- What every device keeps: it is sound, and its fields fit their bytes.
 pub record Good (d : DeviceModel) : Type 0 where
   pub sound : soundDevice d ≡ true
   pub fits : deviceFits d ≡ true
 
-good-encode : (d : DeviceModel) → Good d → soundBytes (encodeOf d) ≡ true
+good-encode : (d : DeviceModel) → Good d → soundBytes (encoded d) ≡ true
 good-encode d g = sound-encode d (g .sound) (g .fits)
 
-pub good-decode : (b : List ℕ) → soundBytes b ≡ true → Good (decodeOf b)
+pub good-decode : (b : List ℕ) → soundBytes b ≡ true → Good (decode b)
 good-decode b s = record { sound = sound-decode b s; fits = fits-decode b s }
 
 good-cycle : (d : DeviceModel) (x : Pins) → Good d → Good (cycleOf d x)
 good-cycle d x g = record { sound = sound-cycle d x (g .sound); fits = fits-cycle d x (g .sound) (g .fits) }
 
-good-after : (d : DeviceModel) (ins : List ℕ) → Good d → Good (after d ins)
-unfolding after steppedOf
+good-after : (d : DeviceModel) (ins : List ℕ) → Good d → Good (afterBytes d ins)
+unfolding afterBytes
 good-after d [] g = g
 good-after d (p ∷ ps) g = good-after (cycleOf d (pinsOf p)) ps (good-cycle d (pinsOf p) g)
 
-pub good-later : (n : ℕ) (p : PairModel) → Good (p .first) → Good (p .second) → Good (later n p .first) × Good (later n p .second)
+pub good-pair-run : (n : ℕ) (p : PairModel) → Good (p .first) → Good (p .second) → Good (pairRun n p .first) × Good (pairRun n p .second)
 unfolding pairCycle
-good-later zero p g k = (g, k)
-good-later (suc n) p g k = good-later n (pairCycle p) (good-cycle (p .first) (wire (p .second .lines)) g) (good-cycle (p .second) (wire (p .first .lines)) k)
+good-pair-run zero p g k = (g, k)
+good-pair-run (suc n) p g k = good-pair-run n (pairCycle p) (good-cycle (p .first) (wire (p .second .lines)) g) (good-cycle (p .second) (wire (p .first .lines)) k)
 
 good-read : (d : DeviceModel) (o : ℕ) → Good d → Good (readDevice d o)
 good-read d o g = record { sound = sound-read d o (g .sound); fits = fits-read d o (g .fits) }
@@ -56,7 +56,7 @@ good-write d o v g = record { sound = sound-write d o v (g .sound); fits = fits-
 left-sound : (refusal : ℕ) (d : DeviceModel) (b : List ℕ) → Good d → soundBytes b ≡ true → soundBytes (leftBy refusal d b) ≡ true
 left-sound refusal d b g s = go (eqb refusal done)
   where
-    go : (t : Bool) → soundBytes (pick t (encodeOf d) b) ≡ true
+    go : (t : Bool) → soundBytes (pick t (encoded d) b) ≡ true
     go true = good-encode d g
     go false = s
 
@@ -72,16 +72,16 @@ reset-keeps-sound bytes s = left-sound (resetRefusal bytes) resetDevice bytes re
 
 pub read-keeps-sound : (bytes : List ℕ) (o : ℕ) → soundBytes bytes ≡ true → soundBytes (readLeft bytes o) ≡ true
 read-keeps-sound bytes o s =
-    left-sound (refusalOf (readCall bytes o)) (readDevice (decodeOf bytes) o) bytes (good-read (decodeOf bytes) o (good-decode bytes s)) s
+    left-sound (refusalOf (readCall bytes o)) (readDevice (decode bytes) o) bytes (good-read (decode bytes) o (good-decode bytes s)) s
 
 pub write-keeps-sound : (bytes : List ℕ) (o v : ℕ) → soundBytes bytes ≡ true → soundBytes (writeLeft bytes o v) ≡ true
 write-keeps-sound bytes o v s =
-    left-sound (writeCall bytes o v) (writeDevice (decodeOf bytes) o v) bytes (good-write (decodeOf bytes) o v (good-decode bytes s)) s
+    left-sound (writeCall bytes o v) (writeDevice (decode bytes) o v) bytes (good-write (decode bytes) o v (good-decode bytes s)) s
 
-pub run-keeps-sound : (rule : Rule) (bytes ins outs : List ℕ) → soundBytes bytes ≡ true → soundBytes (runLeft rule bytes ins outs) ≡ true
-run-keeps-sound rule bytes ins outs s =
-    let n = take (runCount rule bytes ins outs) ins in
-    left-sound (runRefusal bytes ins outs) (after (decodeOf bytes) n) bytes (good-after (decodeOf bytes) n (good-decode bytes s)) s
+pub run-keeps-sound : (stop : Stop) (bytes ins outs : List ℕ) → soundBytes bytes ≡ true → soundBytes (runLeft stop bytes ins outs) ≡ true
+run-keeps-sound stop bytes ins outs s =
+    let n = take (runCount stop bytes ins outs) ins in
+    left-sound (runRefusal bytes ins outs) (afterBytes (decode bytes) n) bytes (good-after (decode bytes) n (good-decode bytes s)) s
 
 -- A pair run is refused where either record is not sound.
 pair-refused : (one two : List ℕ) → (not (soundBytes one) || not (soundBytes two)) ≡ true → eqb (pairRefusal one two) done ≡ false
@@ -96,7 +96,7 @@ pair-refused one two u = rw u (go (not (eqb (length one) 128) || not (eqb (lengt
 module _ (one two : List ℕ) (n : ℕ) where
   both-good : soundBytes one ≡ true → soundBytes two ≡ true → Good (pairAfter one two n .first) × Good (pairAfter one two n .second)
   unfolding pairAfter
-  both-good s t = good-later n (record { first = decodeOf one; second = decodeOf two }) (good-decode one s) (good-decode two t)
+  both-good s t = good-pair-run n (record { first = decode one; second = decode two }) (good-decode one s) (good-decode two t)
 
   pub pair-keeps-first : soundBytes one ≡ true → soundBytes (pairLeft one two n .one) ≡ true
   pair-keeps-first s = go (soundBytes two) refl
@@ -117,7 +117,7 @@ reached-sound (Reached.reset b e) = reset-makes-sound b e
 reached-sound (Reached.again b h) = reset-keeps-sound b (reached-sound h)
 reached-sound (Reached.read b o h) = read-keeps-sound b o (reached-sound h)
 reached-sound (Reached.write b o v h) = write-keeps-sound b o v (reached-sound h)
-reached-sound (Reached.run rule b i o h) = run-keeps-sound rule b i o (reached-sound h)
+reached-sound (Reached.run stop b i o h) = run-keeps-sound stop b i o (reached-sound h)
 reached-sound (Reached.first a b n h) = pair-keeps-first a b n (reached-sound h)
 reached-sound (Reached.second a b n h) = pair-keeps-second a b n (reached-sound h)
 
@@ -135,7 +135,7 @@ module _ (bytes : List ℕ) (h : Reached bytes) where
   reached-read o e = go (eqb (length bytes) 128) refl
     where
       go : (t : Bool) → eqb (length bytes) 128 ≡ t → ⊥
-      go true k = omega (arith, read-most (decodeOf bytes) o, rw (reached-record true k) at e)
+      go true k = omega (arith, read-most (decode bytes) o, rw (reached-record true k) at e)
       go false k = omega (arith, rw (reached-record false k) at e)
 
   pub reached-write : (o v : ℕ) → writeCall bytes o v ≡ 9 → ⊥
@@ -143,7 +143,7 @@ module _ (bytes : List ℕ) (h : Reached bytes) where
   reached-write o v e = go (eqb (length bytes) 128) refl
     where
       go : (t : Bool) → eqb (length bytes) 128 ≡ t → ⊥
-      go true k = omega (arith, write-most (decodeOf bytes) o v, rw (reached-record true k) at e)
+      go true k = omega (arith, write-most (decode bytes) o v, rw (reached-record true k) at e)
       go false k = omega (arith, rw (reached-record false k) at e)
 
   pub reached-run : (ins outs : List ℕ) → runRefusal bytes ins outs ≡ 9 → ⊥

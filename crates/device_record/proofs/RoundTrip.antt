@@ -9,7 +9,7 @@ use lib.ListN.{length, getD, take}
 use mir.Val.{boolByte}
 use borrow.Author.Tests.{eq-eqb, eqb-true, ltb-true, leb-true, lt-ltb}
 use Rattle.registers.proofs.Picks.{and-left, and-right, and-both}
-use Rattle.registers.specs.Fields.{fieldsOf, modelFrom, places}
+use Rattle.registers.specs.Fields.{fieldsOf, restored, places}
 use Rattle.registers.proofs.RoundTrip.{FileFits, file-fits, model-fields, word-fits, words-fit-take}
 use Rattle.serial.proofs.Soundness.{EngineFit, engine-fit}
 use Rattle.registers.specs.Model.{Model}
@@ -18,7 +18,7 @@ use Rattle.registers.specs.declared.fields.Fields.{Fields}
 use Rattle.serial.specs.Cycle.{DeviceModel}
 use Rattle.serial.specs.Lines.{pinsOf, byteOf}
 use Rattle.serial.specs.Sound.{soundDevice, deviceFits}
-use Rattle.device_record.specs.Record.{recordLength, pinByte, registerBytes, engineBytes, levelBytes, countBytes, stateBytes, wordBytes, queueBytes, encodeOf, wordAt, longAt, flagAt, wordsAt, linesFrom, fieldsAt, engineAt, historyAt, decodeOf, eqList, soundBytes}
+use Rattle.device_record.specs.Record.{recordLength, pinByte, registerBytes, engineBytes, levelBytes, countBytes, stateBytes, wordBytes, queueBytes, encoded, wordAt, longAt, flagAt, wordsAt, linesFrom, fieldsAt, engineAt, historyAt, decode, eqList, soundBytes}
 use Rattle.serial.specs.declared.History.{History}
 use Rattle.serial.specs.declared.engine.Engine.{Engine}
 use Rattle.serial.specs.declared.lines.Lines.{Lines}
@@ -71,8 +71,8 @@ unfolding stateBytes registerBytes engineBytes levelBytes countBytes queueBytes 
 length-parts m e h l = refl
 
 -- a record has 128 bytes
-pub length-encode : (d : DeviceModel) → length (encodeOf d) ≡ recordLength
-unfolding encodeOf
+pub length-encode : (d : DeviceModel) → length (encoded d) ≡ recordLength
+unfolding encoded
 length-encode d = length-parts (d .registers) (d .engine) (d .pins) (d .lines)
 
 -- single fields from their bytes
@@ -170,7 +170,7 @@ module _ (m : Model) (e : Engine) (h : History) (l : Lines) where
   engine-back : EngineFit e → engineAt parts ≡ e
   unfolding stateBytes registerBytes engineBytes levelBytes countBytes engineAt wordAt flagAt
   engine-back k =
-      rw (byte-back (e .slot .0) (k .slot), word-back (e .gone .0) (k .gone), byte-back (e .shift .captured) (k .captured), word-back (e .shift .sending) (k .sending), word-back (e .shift .receiving) (k .receiving), flag-back (e .frame), flag-back (e .selected), flag-back (e .mark), flag-back (e .shift .level))
+      rw (byte-back (e .slot .0) (k .slot), word-back (e .elapsed .0) (k .elapsed), byte-back (e .shift .captured) (k .captured), word-back (e .shift .sending) (k .sending), word-back (e .shift .receiving) (k .receiving), flag-back (e .frame), flag-back (e .selected), flag-back (e .mark), flag-back (e .shift .level))
 
   history-back : historyAt parts ≡ h
   unfolding stateBytes registerBytes engineBytes levelBytes countBytes historyAt
@@ -182,58 +182,58 @@ module _ (m : Model) (e : Engine) (h : History) (l : Lines) where
 
   -- whatever was encoded, its bytes hold no more than fits them
 
-  file-decoded : registersFit (modelFrom (fieldsAt parts)) ≡ true
-  unfolding stateBytes registerBytes engineBytes levelBytes countBytes queueBytes wordBytes fieldsOf places modelFrom fieldsAt wordAt longAt flagAt wordsAt registersFit
+  file-decoded : registersFit (restored (fieldsAt parts)) ≡ true
+  unfolding stateBytes registerBytes engineBytes levelBytes countBytes queueBytes wordBytes fieldsOf places restored fieldsAt wordAt longAt flagAt wordsAt registersFit
   file-decoded =
       and-both _ _
       (and-both _ _ (and-both _ _ (word-small (m .control .cr0)) (lt-ltb (m .control .cpsr % 256) 0x100 (omega arith))) (long-small (m .timeout .count .0)))
       (and-both _ _ (places-small (m .tx) (length (m .tx))) (places-small (m .rx) (length (m .rx))))
 
-  engine-decoded : ((ltb (engineAt parts .slot .0) 0x100 && ltb (engineAt parts .gone .0) 0x10000) && ltb (engineAt parts .shift .captured) 0x100) && (ltb (engineAt parts .shift .sending) 0x10000 && ltb (engineAt parts .shift .receiving) 0x10000) ≡ true
+  engine-decoded : ((ltb (engineAt parts .slot .0) 0x100 && ltb (engineAt parts .elapsed .0) 0x10000) && ltb (engineAt parts .shift .captured) 0x100) && (ltb (engineAt parts .shift .sending) 0x10000 && ltb (engineAt parts .shift .receiving) 0x10000) ≡ true
   unfolding stateBytes registerBytes engineBytes levelBytes countBytes engineAt wordAt flagAt
   engine-decoded =
       and-both _ _
-      (and-both _ _ (and-both _ _ (lt-ltb (e .slot .0 % 256) 0x100 (omega arith)) (word-small (e .gone .0))) (lt-ltb (e .shift .captured % 256) 0x100 (omega arith)))
+      (and-both _ _ (and-both _ _ (lt-ltb (e .slot .0 % 256) 0x100 (omega arith)) (word-small (e .elapsed .0))) (lt-ltb (e .shift .captured % 256) 0x100 (omega arith)))
       (and-both _ _ (word-small (e .shift .sending)) (word-small (e .shift .receiving)))
 
 -- a sound device that fits its bytes comes back from them
-pub decode-encode : (d : DeviceModel) → soundDevice d ≡ true → deviceFits d ≡ true → decodeOf (encodeOf d) ≡ d
-unfolding soundDevice deviceFits encodeOf decodeOf
+pub decode-encode : (d : DeviceModel) → soundDevice d ≡ true → deviceFits d ≡ true → decode (encoded d) ≡ d
+unfolding soundDevice deviceFits encoded decode
 decode-encode d s f =
     let file = file-fits (d .registers) (and-left (soundRegisters (d .registers)) _ s) (and-left (registersFit (d .registers)) _ f) in
     rw (fields-back (d .registers) (d .engine) (d .pins) (d .lines) file, engine-back (d .registers) (d .engine) (d .pins) (d .lines) (engine-fit d f), history-back (d .registers) (d .engine) (d .pins) (d .lines), levels-back (d .registers) (d .engine) (d .pins) (d .lines), model-fields (d .registers) (file .waiting) (file .held))
 
-fits-encoded : (d : DeviceModel) → deviceFits (decodeOf (encodeOf d)) ≡ true
-unfolding deviceFits encodeOf decodeOf
+fits-encoded : (d : DeviceModel) → deviceFits (decode (encoded d)) ≡ true
+unfolding deviceFits encoded decode
 fits-encoded d =
     and-both _ _ (file-decoded (d .registers) (d .engine) (d .pins) (d .lines)) (engine-decoded (d .registers) (d .engine) (d .pins) (d .lines))
 
 -- sound bytes are their device's
-pub encode-decode : (b : List ℕ) → soundBytes b ≡ true → encodeOf (decodeOf b) ≡ b
+pub encode-decode : (b : List ℕ) → soundBytes b ≡ true → encoded (decode b) ≡ b
 unfolding soundBytes
-encode-decode b s = eqList-true (encodeOf (decodeOf b)) b (and-left (eqList (encodeOf (decodeOf b)) b) _ s)
+encode-decode b s = eqList-true (encoded (decode b)) b (and-left (eqList (encoded (decode b)) b) _ s)
 
 -- and that device is sound
-pub sound-decode : (b : List ℕ) → soundBytes b ≡ true → soundDevice (decodeOf b) ≡ true
+pub sound-decode : (b : List ℕ) → soundBytes b ≡ true → soundDevice (decode b) ≡ true
 unfolding soundBytes
-sound-decode b s = and-right (eqList (encodeOf (decodeOf b)) b) _ s
+sound-decode b s = and-right (eqList (encoded (decode b)) b) _ s
 
 -- and fits its bytes
-pub fits-decode : (b : List ℕ) → soundBytes b ≡ true → deviceFits (decodeOf b) ≡ true
-fits-decode b s = rw (encode-decode b s) at (fits-encoded (decodeOf b))
+pub fits-decode : (b : List ℕ) → soundBytes b ≡ true → deviceFits (decode b) ≡ true
+fits-decode b s = rw (encode-decode b s) at (fits-encoded (decode b))
 
 pub length-sound : (b : List ℕ) → soundBytes b ≡ true → length b ≡ recordLength
-length-sound b s = sym (ap length (encode-decode b s)) ∙ length-encode (decodeOf b)
+length-sound b s = sym (ap length (encode-decode b s)) ∙ length-encode (decode b)
 
 -- the bytes of a sound device that fits are sound
-pub sound-encode : (d : DeviceModel) → soundDevice d ≡ true → deviceFits d ≡ true → soundBytes (encodeOf d) ≡ true
+pub sound-encode : (d : DeviceModel) → soundDevice d ≡ true → deviceFits d ≡ true → soundBytes (encoded d) ≡ true
 unfolding soundBytes
-sound-encode d s f = rw (decode-encode d s f, eqList-refl (encodeOf d)) s
+sound-encode d s f = rw (decode-encode d s f, eqList-refl (encoded d)) s
 
 -- two such devices with the same bytes are the same
-pub encode-injective : (d e : DeviceModel) → soundDevice d ≡ true → deviceFits d ≡ true → soundDevice e ≡ true → deviceFits e ≡ true → encodeOf d ≡ encodeOf e → d ≡ e
-encode-injective d e sd fd se fe h = sym (decode-encode d sd fd) ∙ (ap decodeOf h ∙ decode-encode e se fe)
+pub encode-injective : (d e : DeviceModel) → soundDevice d ≡ true → deviceFits d ≡ true → soundDevice e ≡ true → deviceFits e ≡ true → encoded d ≡ encoded e → d ≡ e
+encode-injective d e sd fd se fe h = sym (decode-encode d sd fd) ∙ (ap decode h ∙ decode-encode e se fe)
 
 -- two sound byte strings of the same device are the same
-pub decode-injective : (a b : List ℕ) → soundBytes a ≡ true → soundBytes b ≡ true → decodeOf a ≡ decodeOf b → a ≡ b
-decode-injective a b sa sb h = sym (encode-decode a sa) ∙ (ap encodeOf h ∙ encode-decode b sb)
+pub decode-injective : (a b : List ℕ) → soundBytes a ≡ true → soundBytes b ≡ true → decode a ≡ decode b → a ≡ b
+decode-injective a b sa sb h = sym (encode-decode a sa) ∙ (ap encoded h ∙ encode-decode b sb)

@@ -10,12 +10,12 @@ use borrow.Author.Tests.{eq-eqb, ne-eqb, le-leb, lt-leb}
 use lib.ListN.{length, getD, take, drop, set, length-set, drop-of-length-le}
 use lib.Seq.{drop-cons, take-suc, set-at, length-take-le, take-length, drop-length}
 use Rattle.registers.specs.Choose.{pick}
-use Rattle.serial.specs.Lines.{byteOf}
-use Rattle.serial.specs.Cycle.{DeviceModel, deviceOf}
-use Rattle.device_record.specs.Run.{steppedOf, after, outputs, inputsFit, stopsOn, countUntil, written, served, RanAs}
+use Rattle.serial.specs.Lines.{pinsOf, byteOf}
+use Rattle.serial.specs.Cycle.{DeviceModel, deviceOf, cycleOf}
+use Rattle.device_record.specs.Run.{afterBytes, outputs, inputsFit, stopsOn, countUntil, written, served, RunUntil}
 use Rattle.serial.specs.declared.Device.{Device}
 use Rattle.device_record.specs.declared.run.Ran.{Ran}
-use Rattle.device_record.specs.declared.run.Rule.the-variants.{Never}
+use Rattle.device_record.specs.declared.run.Stop.the-variants.{Never}
 
 -- Input bytes ----------------------------------------------------------------------------------------------------------
 
@@ -35,23 +35,23 @@ module _ (ins : List ℕ) (i : ℕ) (k : inputsFit ins ≡ inputsFit (drop i ins
 
 -- Cycles ---------------------------------------------------------------------------------------------------------------
 
-after-snoc : (d : DeviceModel) (xs : List ℕ) (x : ℕ) → after d (xs ++ (x ∷ [])) ≡ steppedOf (after d xs) x
-unfolding after
+after-snoc : (d : DeviceModel) (xs : List ℕ) (x : ℕ) → afterBytes d (xs ++ (x ∷ [])) ≡ cycleOf (afterBytes d xs) (pinsOf x)
+unfolding afterBytes
 after-snoc d [] x = refl
-after-snoc d (y ∷ ys) x = after-snoc (steppedOf d y) ys x
+after-snoc d (y ∷ ys) x = after-snoc (cycleOf d (pinsOf y)) ys x
 
-outputs-snoc : (d : DeviceModel) (xs : List ℕ) (x : ℕ) → outputs d (xs ++ (x ∷ [])) ≡ outputs d xs ++ (byteOf (steppedOf (after d xs) x .lines) ∷ [])
-unfolding outputs after
+outputs-snoc : (d : DeviceModel) (xs : List ℕ) (x : ℕ) → outputs d (xs ++ (x ∷ [])) ≡ outputs d xs ++ (byteOf (cycleOf (afterBytes d xs) (pinsOf x) .lines) ∷ [])
+unfolding outputs afterBytes
 outputs-snoc d [] x = refl
-outputs-snoc d (y ∷ ys) x = ap (λ (l : List ℕ). byteOf (steppedOf d y .lines) ∷ l) (outputs-snoc (steppedOf d y) ys x)
+outputs-snoc d (y ∷ ys) x = ap (λ (l : List ℕ). byteOf (cycleOf d (pinsOf y) .lines) ∷ l) (outputs-snoc (cycleOf d (pinsOf y)) ys x)
 
 pub outputs-length : (d : DeviceModel) (xs : List ℕ) → length (outputs d xs) ≡ length xs
 unfolding outputs
 outputs-length d [] = refl
-outputs-length d (y ∷ ys) = ap suc (outputs-length (steppedOf d y) ys)
+outputs-length d (y ∷ ys) = ap suc (outputs-length (cycleOf d (pinsOf y)) ys)
 
 module _ (stops : DeviceModel → Bool) where
-  count-more : (s : DeviceModel) (p : ℕ) (ps : List ℕ) → stops s ≡ false → countUntil stops s (p ∷ ps) ≡ 1 + countUntil stops (steppedOf s p) ps
+  count-more : (s : DeviceModel) (p : ℕ) (ps : List ℕ) → stops s ≡ false → countUntil stops s (p ∷ ps) ≡ 1 + countUntil stops (cycleOf s (pinsOf p)) ps
   unfolding countUntil
   count-more s p ps e = rw (countUntil, e)
 
@@ -60,11 +60,11 @@ module _ (stops : DeviceModel → Bool) where
   count-none s [] e = refl
   count-none s (p ∷ ps) e = rw (countUntil, e)
 
--- With no stopping rule every input byte has its cycle.
+-- With no stopping stop every input byte has its cycle.
 pub count-never : (d : DeviceModel) (ins : List ℕ) → countUntil (stopsOn Never) d ins ≡ length ins
 unfolding countUntil
 count-never d [] = refl
-count-never d (p ∷ ps) = omega (arith, count-never (steppedOf d p) ps)
+count-never d (p ∷ ps) = omega (arith, count-never (cycleOf d (pinsOf p)) ps)
 
 pub served-all : (ins outs : List ℕ) → length ins ≡ length outs → served ins outs ≡ ins
 unfolding served
@@ -76,8 +76,8 @@ unfolding written
 written-all d ins outs e = rw (take-length ins, e, drop-length outs, append-nil)
 
 -- Nothing is run where the lengths differ.
-pub run-refused : (stops : DeviceModel → Bool) (d : Device) (ins outs : List ℕ) → (length ins ≡ length outs → ⊥) → RanAs stops (deviceOf d) ins outs (record { count = 0; device = d }) outs
-unfolding served written countUntil after outputs
+pub run-refused : (stops : DeviceModel → Bool) (d : Device) (ins outs : List ℕ) → (length ins ≡ length outs → ⊥) → RunUntil stops (deviceOf d) ins outs (record { count = 0; device = d }) outs
+unfolding served written countUntil afterBytes outputs
 run-refused stops d ins outs h =
     let e = ne-eqb (length ins) (length outs) h in
     record { count = rw e; device = rw e; output = rw e }
@@ -88,15 +88,15 @@ pub record Running (stops : DeviceModel → Bool) (d : DeviceModel) (ins outs no
   pub long : length ins ≡ length outs
   pub same : length now ≡ length outs
   pub count : countUntil stops d ins ≡ i + countUntil stops s (drop i ins)
-  pub device : s ≡ after d (take i ins)
+  pub device : s ≡ afterBytes d (take i ins)
   pub output : now ≡ outputs d (take i ins) ++ drop i outs
 
 pub run-begin : (stops : DeviceModel → Bool) (d : DeviceModel) (ins outs : List ℕ) → length ins ≡ length outs → Running stops d ins outs outs d 0
-unfolding outputs after
+unfolding outputs afterBytes
 run-begin stops d ins outs e = record { within = omega arith; long = e; same = refl; count = omega arith; device = refl; output = refl }
 
 module _ (stops : DeviceModel → Bool) (d : DeviceModel) (ins outs now : List ℕ) (s : DeviceModel) (i : ℕ) (r : Running stops d ins outs now s i) where
-  pub run-turn : (n : DeviceModel) (b : ℕ) → i < length ins → stops s ≡ false → n ≡ steppedOf s (getD ins i 0) → b ≡ byteOf (n .lines) → Running stops d ins outs (set now i b) n (i + 1)
+  pub run-turn : (n : DeviceModel) (b : ℕ) → i < length ins → stops s ≡ false → n ≡ cycleOf s (pinsOf (getD ins i 0)) → b ≡ byteOf (n .lines) → Running stops d ins outs (set now i b) n (i + 1)
   run-turn n b h t e f =
       let c : countUntil stops s (drop i ins) ≡ 1 + countUntil stops n (drop (i + 1) ins) = rw (add-one i, drop-cons ins i 0 h, e) (count-more stops s (getD ins i 0) (drop (suc i) ins) t) in
       let l : length (outputs d (take i ins)) ≡ i = outputs-length d (take i ins) ∙ length-take-le i ins (omega arith) in
@@ -111,17 +111,17 @@ module _ (stops : DeviceModel → Bool) (d : DeviceModel) (ins outs now : List �
       }
 
   module _ (x : Device) (same : deviceOf x ≡ s) where
-    run-stop : countUntil stops d ins ≡ i → RanAs stops d ins outs (record { count = i; device = x }) now
+    run-stop : countUntil stops d ins ≡ i → RunUntil stops d ins outs (record { count = i; device = x }) now
     unfolding written
     run-stop e =
         let a = served-all ins outs (r .long) in
         record { count = rw a (sym e); device = rw (a, e) (same ∙ r .device); output = rw (a, e) (r .output) }
 
-    -- the rule holds
-    pub run-held : stops s ≡ true → RanAs stops d ins outs (record { count = i; device = x }) now
+    -- the stop holds
+    pub run-held : stops s ≡ true → RunUntil stops d ins outs (record { count = i; device = x }) now
     run-held t = run-stop (r .count ∙ omega (arith, count-none stops s (drop i ins) t))
 
     -- the input ends
-    pub run-ended : length ins ≤ i → RanAs stops d ins outs (record { count = i; device = x }) now
+    pub run-ended : length ins ≤ i → RunUntil stops d ins outs (record { count = i; device = x }) now
     unfolding countUntil
     run-ended h = run-stop (r .count ∙ rw (drop-of-length-le ins {i = i} h) (omega arith))

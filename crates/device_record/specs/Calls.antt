@@ -11,15 +11,15 @@ use Rattle.registers.specs.declared.access.Answer.{Answer}
 use Rattle.registers.specs.declared.access.Answer.the-variants.{Refused}
 use Rattle.serial.specs.Cycle.{DeviceModel, resetDevice}
 use Rattle.serial.specs.Access.{readAnswerOf, readDevice, writeRefusalOf, writeDevice}
-use Rattle.serial.specs.Pair.{PairModel, later}
-use Rattle.device_record.specs.Record.{recordLength, encodeOf, decodeOf, soundBytes}
-use Rattle.device_record.specs.Run.{after, stopsOn, countUntil, written, wrongLength, unsound, runRefusal}
+use Rattle.serial.specs.Pair.{PairModel, pairRun}
+use Rattle.device_record.specs.Record.{recordLength, encoded, decode, soundBytes}
+use Rattle.device_record.specs.Run.{afterBytes, stopsOn, countUntil, written, wrongLength, unsound, runRefusal}
 use Rattle.device_record.specs.declared.calls.RunAnswer.{RunAnswer}
-use Rattle.device_record.specs.declared.run.Rule.{Rule}
+use Rattle.device_record.specs.declared.run.Stop.{Stop}
 
 -- A record after a call: the encoding of a device where the call is done, else the bytes as they were.
 abbrev pub leftBy : ℕ → DeviceModel → List ℕ → List ℕ
-leftBy refusal d bytes = pick (eqb refusal done) (encodeOf d) bytes
+leftBy refusal d bytes = pick (eqb refusal done) (encoded d) bytes
 
 -- Reset ----------------------------------------------------------------------------------------------------------------
 
@@ -45,20 +45,20 @@ recordRefusal bytes =
 
 -- A read answers with a word or with a refusal number.
 unfoldable pub readCall : List ℕ → ℕ → Answer
-readCall bytes o = pick (eqb (recordRefusal bytes) done) (readAnswerOf (decodeOf bytes) o) (Refused (recordRefusal bytes))
+readCall bytes o = pick (eqb (recordRefusal bytes) done) (readAnswerOf (decode bytes) o) (Refused (recordRefusal bytes))
 
 abbrev pub readLeft : List ℕ → ℕ → List ℕ
-readLeft bytes o = leftBy (refusalOf (readCall bytes o)) (readDevice (decodeOf bytes) o) bytes
+readLeft bytes o = leftBy (refusalOf (readCall bytes o)) (readDevice (decode bytes) o) bytes
 
 pub record ReadCall (bytes : List ℕ) (o : ℕ) (r : Answer) (bytes′ : List ℕ) : Type 0 where
   pub answer : r ≡ readCall bytes o
   pub left : bytes′ ≡ readLeft bytes o
 
 unfoldable pub writeCall : List ℕ → ℕ → ℕ → ℕ
-writeCall bytes o v = firstOf (recordRefusal bytes) (writeRefusalOf (decodeOf bytes) o v)
+writeCall bytes o v = firstOf (recordRefusal bytes) (writeRefusalOf (decode bytes) o v)
 
 abbrev pub writeLeft : List ℕ → ℕ → ℕ → List ℕ
-writeLeft bytes o v = leftBy (writeCall bytes o v) (writeDevice (decodeOf bytes) o v) bytes
+writeLeft bytes o v = leftBy (writeCall bytes o v) (writeDevice (decode bytes) o v) bytes
 
 pub record WriteCall (bytes : List ℕ) (o v r : ℕ) (bytes′ : List ℕ) : Type 0 where
   pub refusal : r ≡ writeCall bytes o v
@@ -66,22 +66,22 @@ pub record WriteCall (bytes : List ℕ) (o v r : ℕ) (bytes′ : List ℕ) : Ty
 
 -- Runs -----------------------------------------------------------------------------------------------------------------
 
--- The cycles of a run by a stopping rule; 0 where it is refused.
-unfoldable pub runCount : Rule → List ℕ → List ℕ → List ℕ → ℕ
-runCount rule bytes ins outs = pick (eqb (runRefusal bytes ins outs) done) (countUntil (stopsOn rule) (decodeOf bytes) ins) 0
+-- The cycles of a run by a stopping stop; 0 where it is refused.
+unfoldable pub runCount : Stop → List ℕ → List ℕ → List ℕ → ℕ
+runCount stop bytes ins outs = pick (eqb (runRefusal bytes ins outs) done) (countUntil (stopsOn stop) (decode bytes) ins) 0
 
 -- As many cycles as the count says; output bytes past them stay.
-abbrev pub runLeft : Rule → List ℕ → List ℕ → List ℕ → List ℕ
-runLeft rule bytes ins outs = leftBy (runRefusal bytes ins outs) (after (decodeOf bytes) (take (runCount rule bytes ins outs) ins)) bytes
+abbrev pub runLeft : Stop → List ℕ → List ℕ → List ℕ → List ℕ
+runLeft stop bytes ins outs = leftBy (runRefusal bytes ins outs) (afterBytes (decode bytes) (take (runCount stop bytes ins outs) ins)) bytes
 
-abbrev pub runOutput : Rule → List ℕ → List ℕ → List ℕ → List ℕ
-runOutput rule bytes ins outs = pick (eqb (runRefusal bytes ins outs) done) (written (decodeOf bytes) (runCount rule bytes ins outs) ins outs) outs
+abbrev pub runOutput : Stop → List ℕ → List ℕ → List ℕ → List ℕ
+runOutput stop bytes ins outs = pick (eqb (runRefusal bytes ins outs) done) (written (decode bytes) (runCount stop bytes ins outs) ins outs) outs
 
-pub record RunCall (rule : Rule) (bytes ins outs : List ℕ) (r : RunAnswer) (bytes′ outs′ : List ℕ) : Type 0 where
+pub record RunCall (stop : Stop) (bytes ins outs : List ℕ) (r : RunAnswer) (bytes′ outs′ : List ℕ) : Type 0 where
   pub refusal : r .refusal ≡ runRefusal bytes ins outs
-  pub count : r .count ≡ runCount rule bytes ins outs
-  pub left : bytes′ ≡ runLeft rule bytes ins outs
-  pub output : outs′ ≡ runOutput rule bytes ins outs
+  pub count : r .count ≡ runCount stop bytes ins outs
+  pub left : bytes′ ≡ runLeft stop bytes ins outs
+  pub output : outs′ ≡ runOutput stop bytes ins outs
 
 -- Pairs ----------------------------------------------------------------------------------------------------------------
 
@@ -94,7 +94,7 @@ pairRefusal one two =
 
 -- The two devices of the records, after so many pair cycles.
 unfoldable pub pairAfter : List ℕ → List ℕ → ℕ → PairModel
-pairAfter one two n = later n (record { first = decodeOf one; second = decodeOf two })
+pairAfter one two n = pairRun n (record { first = decode one; second = decode two })
 
 -- Both records hold the devices after that many pair cycles.
 pub record Records : Type 0 where
@@ -121,6 +121,6 @@ pub data Reached : List ℕ → Type 0 where
   again : (bytes : List ℕ) → Reached bytes → Reached (resetLeft bytes)
   read : (bytes : List ℕ) (o : ℕ) → Reached bytes → Reached (readLeft bytes o)
   write : (bytes : List ℕ) (o v : ℕ) → Reached bytes → Reached (writeLeft bytes o v)
-  run : (rule : Rule) (bytes ins outs : List ℕ) → Reached bytes → Reached (runLeft rule bytes ins outs)
+  run : (stop : Stop) (bytes ins outs : List ℕ) → Reached bytes → Reached (runLeft stop bytes ins outs)
   first : (one two : List ℕ) (n : ℕ) → Reached one → Reached (pairLeft one two n .one)
   second : (one two : List ℕ) (n : ℕ) → Reached two → Reached (pairLeft one two n .two)

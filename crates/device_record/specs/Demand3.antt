@@ -7,17 +7,17 @@ use Rattle.registers.specs.declared.settings.Settings.{Settings}
 use Rattle.serial.specs.Bits.{cut}
 use Rattle.serial.specs.Lines.{pinsOf}
 use Rattle.serial.specs.Slots.{widthOf}
-use Rattle.serial.specs.Pair.{PairModel, later}
+use Rattle.serial.specs.Pair.{PairModel, pairRun}
 use Rattle.serial.specs.Demand3.{Step, plays, cyclesIn, Stays, Start, Exchanged, slaveOn, enables, Enabling, WholeLoad}
 use Rattle.serial.specs.Demand3.Which.{master, slave}
 use Rattle.serial.specs.Demand3.Step.{cycle, read, write}
-use Rattle.device_record.specs.Record.{decodeOf, soundBytes}
+use Rattle.device_record.specs.Record.{decode, soundBytes}
 use Rattle.device_record.specs.Run.{outputs}
 use Rattle.device_record.specs.Calls.{Records, readLeft, writeLeft, pairLeft}
 
 -- The devices that two records stand for.
 abbrev pub devicesOf : Records → PairModel
-devicesOf r = record { first = decodeOf (r .one); second = decodeOf (r .two) }
+devicesOf r = record { first = decode (r .one); second = decode (r .two) }
 
 -- What a pair run of n cycles leaves.
 abbrev pub runBytes : ℕ → Records → Records
@@ -47,7 +47,7 @@ steps pre mid p = pre ++ (enables slave (plays pre p) ∷ (mid ++ (enables maste
 pub record ExchangedRecords (r : Records) : Type 0 where
   pub sound : SoundRecords r
   pub exchanged : Exchanged (devicesOf r)
-  pub after : (n : ℕ) → devicesOf (runBytes n r) ≡ later n (devicesOf r)
+  pub after : (n : ℕ) → devicesOf (runBytes n r) ≡ pairRun n (devicesOf r)
 
 -- The first part: from any two sound records, set up as demand 3 has it, the steps leave such records.
 abbrev pub Demand3Records : Type 0
@@ -59,7 +59,7 @@ Demand3Records =
 abbrev pub LastSentenceRecords : Type 0
 LastSentenceRecords =
     (s : Settings) (b b′ : List ℕ) (o v o′ v′ : ℕ) → soundBytes b ≡ true → soundBytes b′ ≡ true
-    → Enabling s (decodeOf b) o v → Enabling s (decodeOf b′) o′ v′ → (ins ins′ : List ℕ)
-    → WholeLoad s (decodeOf (writeLeft b o v)) (map pinsOf ins) → WholeLoad s (decodeOf (writeLeft b′ o′ v′)) (map pinsOf ins′)
-    → outputs (decodeOf (writeLeft b o v)) ins ≡ outputs (decodeOf (writeLeft b′ o′ v′)) ins′
-    → map (cut (widthOf s)) (decodeOf (writeLeft b o v) .registers .tx) ≡ map (cut (widthOf s)) (decodeOf (writeLeft b′ o′ v′) .registers .tx)
+    → Enabling s (decode b) o v → Enabling s (decode b′) o′ v′ → (ins ins′ : List ℕ)
+    → WholeLoad s (decode (writeLeft b o v)) (map pinsOf ins) → WholeLoad s (decode (writeLeft b′ o′ v′)) (map pinsOf ins′)
+    → outputs (decode (writeLeft b o v)) ins ≡ outputs (decode (writeLeft b′ o′ v′)) ins′
+    → map (cut (widthOf s)) (decode (writeLeft b o v) .registers .tx) ≡ map (cut (widthOf s)) (decode (writeLeft b′ o′ v′) .registers .tx)

@@ -9,7 +9,7 @@ use lib.Dec.{eqb}
 use mir.Val.{boolByte}
 use Rattle.registers.specs.Choose.{pick, bitAt}
 use Rattle.registers.specs.Time.{cycles, slots}
-use Rattle.registers.specs.Fields.{fieldsOf, modelFrom}
+use Rattle.registers.specs.Fields.{fieldsOf, restored}
 use Rattle.registers.specs.declared.fields.Fields.{Fields}
 use Rattle.serial.specs.Lines.{pinsOf, byteOf}
 use Rattle.serial.specs.Cycle.{DeviceModel}
@@ -49,7 +49,7 @@ registerBytes f =
 unfoldable pub engineBytes : Engine → List ℕ
 engineBytes e =
     boolByte (e .frame) ∷ boolByte (e .selected) ∷ boolByte (e .mark) ∷ low (e .shift .captured)
-    ∷ low (e .slot .0) ∷ boolByte (e .shift .level) ∷ low (e .gone .0) ∷ high (e .gone .0)
+    ∷ low (e .slot .0) ∷ boolByte (e .shift .level) ∷ low (e .elapsed .0) ∷ high (e .elapsed .0)
     ∷ low (e .shift .sending) ∷ high (e .shift .sending) ∷ low (e .shift .receiving) ∷ high (e .shift .receiving)
     ∷ []
 
@@ -74,12 +74,12 @@ wordBytes (w ∷ ws) = low w ∷ high w ∷ wordBytes ws
 unfoldable pub queueBytes : Fields → List ℕ
 queueBytes f = wordBytes (f .tx) ++ (wordBytes (f .rx) ++ replicate 64 0)
 
-unfoldable pub encodeOf : DeviceModel → List ℕ
-encodeOf d = stateBytes (fieldsOf (d .registers)) (d .engine) (d .pins) (d .lines) ++ queueBytes (fieldsOf (d .registers))
+unfoldable pub encoded : DeviceModel → List ℕ
+encoded d = stateBytes (fieldsOf (d .registers)) (d .engine) (d .pins) (d .lines) ++ queueBytes (fieldsOf (d .registers))
 
 -- Encoding writes a record, and leaves bytes of another length as they are.
-unfoldable pub encodedIn : DeviceModel → List ℕ → List ℕ
-encodedIn d b = pick (eqb (length b) recordLength) (encodeOf d) b
+unfoldable pub encode : DeviceModel → List ℕ → List ℕ
+encode d b = pick (eqb (length b) recordLength) (encoded d) b
 
 -- A part of a record was written from byte `at` on.
 pub record PutAt (before : List ℕ) (at : ℕ) (part after : List ℕ) : Type 0 where
@@ -127,7 +127,7 @@ unfoldable pub engineAt : List ℕ → Engine
 engineAt b =
     record {
       slot = slots (byteAt b 16);
-      gone = cycles (wordAt b 18);
+      elapsed = cycles (wordAt b 18);
       frame = flagAt b 12;
       selected = flagAt b 13;
       mark = flagAt b 14;
@@ -137,8 +137,8 @@ engineAt b =
 unfoldable pub historyAt : List ℕ → History
 historyAt b = record { newest = pinsOf (byteAt b 24); middle = pinsOf (byteAt b 25); oldest = pinsOf (byteAt b 26) }
 
-unfoldable pub decodeOf : List ℕ → DeviceModel
-decodeOf b = record { registers = modelFrom (fieldsAt b); engine = engineAt b; pins = historyAt b; lines = linesFrom (byteAt b 27) }
+unfoldable pub decode : List ℕ → DeviceModel
+decode b = record { registers = restored (fieldsAt b); engine = engineAt b; pins = historyAt b; lines = linesFrom (byteAt b 27) }
 
 -- Two lists are the same.
 unfoldable pub eqList : List ℕ → List ℕ → Bool
@@ -150,4 +150,4 @@ eqList (x ∷ xs) (y ∷ ys) = eqb x y && eqList xs ys
 -- Sound bytes: the encoding of what they stand for, and that is a sound device.
 -- Flags above 1, pins above 7, lines above 15, counts above 8 and anything in an unused place or a spare byte are in no encoding.
 unfoldable pub soundBytes : List ℕ → Bool
-soundBytes b = eqList (encodeOf (decodeOf b)) b && soundDevice (decodeOf b)
+soundBytes b = eqList (encoded (decode b)) b && soundDevice (decode b)

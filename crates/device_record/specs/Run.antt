@@ -1,33 +1,27 @@
--- Runs: one cycle for each input byte, up to a stopping rule.
+-- Runs: one cycle for each input byte, up to a stopping stop.
 use Prim.Native.Nat.{ℕ, _+_}
 use mathlib.Core.Path.{_≡_}
 use mathlib.Core.Bool.{Bool, true, false, not, _&&_}
-use mathlib.Core.List.{List, [], _∷_, _++_}
+use mathlib.Core.List.{List, [], _∷_, _++_, map}
 use lib.ListN.{length, take, drop}
 use lib.Dec.{leb, eqb}
 use Rattle.registers.specs.Choose.{pick}
 use Rattle.registers.specs.Refusals.{done}
 use Rattle.serial.specs.Lines.{pinsOf, byteOf}
-use Rattle.serial.specs.Cycle.{DeviceModel, deviceOf, cycleOf}
+use Rattle.serial.specs.Cycle.{DeviceModel, deviceOf, cycleOf, after, recording}
 use Rattle.serial.specs.Busy.{busyDevice}
 use Rattle.device_record.specs.Record.{recordLength, soundBytes}
-use Rattle.device_record.specs.declared.run.Rule.{Rule}
-use Rattle.device_record.specs.declared.run.Rule.the-variants.{Never, Idle}
+use Rattle.device_record.specs.declared.run.Stop.{Stop}
+use Rattle.device_record.specs.declared.run.Stop.the-variants.{Never, NotBusy}
 use Rattle.device_record.specs.declared.run.Ran.{Ran}
 
--- A cycle with the pins of an input byte.
-unfoldable pub steppedOf : DeviceModel → ℕ → DeviceModel
-steppedOf d p = cycleOf d (pinsOf p)
-
 -- The device after a cycle for each input byte.
-unfoldable pub after : DeviceModel → List ℕ → DeviceModel
-after d [] = d
-after d (p ∷ ps) = after (steppedOf d p) ps
+unfoldable pub afterBytes : DeviceModel → List ℕ → DeviceModel
+afterBytes d ins = after d (map pinsOf ins)
 
 -- The output bytes: the lines of each of these cycles.
 unfoldable pub outputs : DeviceModel → List ℕ → List ℕ
-outputs d [] = []
-outputs d (p ∷ ps) = byteOf (steppedOf d p .lines) ∷ outputs (steppedOf d p) ps
+outputs d ins = map byteOf (recording d (map pinsOf ins))
 
 -- An input byte has three levels, so it is at most 7.
 unfoldable pub inputsFit : List ℕ → Bool
@@ -35,18 +29,18 @@ inputsFit [] = true
 inputsFit (p ∷ ps) = leb p 7 && inputsFit ps
 
 -- Where a run stops before its input ends. A run: nowhere. A run to idle: where BSY is 0.
-abbrev pub stopsOn : Rule → DeviceModel → Bool
+abbrev pub stopsOn : Stop → DeviceModel → Bool
 stopsOn Never d = false
-stopsOn Idle d = not (busyDevice d)
+stopsOn NotBusy d = not (busyDevice d)
 
--- The number of cycles: none where the rule holds at once, otherwise up to and with the first cycle that ends with the rule, or one for each input byte.
+-- The number of cycles: none where the stop holds at once, otherwise up to and with the first cycle that ends with the stop, or one for each input byte.
 unfoldable pub countUntil : (DeviceModel → Bool) → DeviceModel → List ℕ → ℕ
 countUntil stops d [] = 0
-countUntil stops d (p ∷ ps) = elim (stops d) [ true ↦ 0 | false ↦ 1 + countUntil stops (steppedOf d p) ps ]
+countUntil stops d (p ∷ ps) = elim (stops d) [ true ↦ 0 | false ↦ 1 + countUntil stops (cycleOf d (pinsOf p)) ps ]
 
 -- The number of cycles of a run to idle.
 abbrev pub idleCount : DeviceModel → List ℕ → ℕ
-idleCount d ins = countUntil (stopsOn Idle) d ins
+idleCount d ins = countUntil (stopsOn NotBusy) d ins
 
 -- An output buffer after n cycles: the lines of each in its place, the bytes past them as they were.
 unfoldable pub written : DeviceModel → ℕ → List ℕ → List ℕ → List ℕ
@@ -56,10 +50,10 @@ written d n ins outs = outputs d (take n ins) ++ drop n outs
 unfoldable pub served : List ℕ → List ℕ → List ℕ
 served ins outs = pick (eqb (length ins) (length outs)) ins []
 
--- What a run by a stopping rule leaves.
-pub record RanAs (stops : DeviceModel → Bool) (d : DeviceModel) (ins outs : List ℕ) (r : Ran) (outs′ : List ℕ) : Type 0 where
+-- What a run by a stopping stop leaves.
+pub record RunUntil (stops : DeviceModel → Bool) (d : DeviceModel) (ins outs : List ℕ) (r : Ran) (outs′ : List ℕ) : Type 0 where
   pub count : r .count ≡ countUntil stops d (served ins outs)
-  pub device : deviceOf (r .device) ≡ after d (take (countUntil stops d (served ins outs)) ins)
+  pub device : deviceOf (r .device) ≡ afterBytes d (take (countUntil stops d (served ins outs)) ins)
   pub output : outs′ ≡ written d (countUntil stops d (served ins outs)) ins outs
 
 -- Refusals -------------------------------------------------------------------------------------------------------------

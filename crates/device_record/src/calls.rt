@@ -4,7 +4,7 @@ ghost use Rattle.registers.specs.Refusals.{refusalOf};
 ghost use Rattle.device_record.specs.Run.{runRefusal};
 ghost use Rattle.device_record.specs.Calls.{resetRefusal, recordRefusal, pairRefusal, ResetCall, ReadCall, WriteCall, RunCall, PairCall};
 use crate::record::RECORD_LENGTH;
-use crate::run::Rule;
+use crate::run::Stop;
 use registers::access::Answer;
 use serial::pair::Wired;
 
@@ -40,7 +40,7 @@ fn record_refusal(bytes: &[u8]) -> u8
     if wrong {
         return WRONG_LENGTH;
     }
-    let unsound = !crate::record::sound(bytes);
+    let unsound = !crate::record::sound_bytes(bytes);
     if unsound { UNSOUND } else { DONE }
 }
 
@@ -59,7 +59,7 @@ fn run_refusal(bytes: &[u8], input: &[u8], output: &[u8]) -> u8
     if bad {
         return BAD_INPUT;
     }
-    let unsound = !crate::record::sound(bytes);
+    let unsound = !crate::record::sound_bytes(bytes);
     if unsound { UNSOUND } else { DONE }
 }
 
@@ -70,8 +70,8 @@ fn pair_refusal(first: &[u8], second: &[u8]) -> u8
     if wrong {
         return WRONG_LENGTH;
     }
-    let one = crate::record::sound(first);
-    let two = crate::record::sound(second);
+    let one = crate::record::sound_bytes(first);
+    let two = crate::record::sound_bytes(second);
     let unsound = !one | !two;
     if unsound { UNSOUND } else { DONE }
 }
@@ -87,20 +87,20 @@ pub fn refusal_of(answer: Answer) -> u8
 }
 
 // Makes the record that of a device as after reset, whatever it held.
-pub fn reset(bytes: &mut [u8]) -> u8
+pub fn reset_call(bytes: &mut [u8]) -> u8
     ensures { λ r. ⌜ ResetCall (now (bytes .entry)) r (now (bytes .exit)) ⌝ }
 {
     let refusal = reset_refusal(bytes);
     let done = refusal == DONE;
     if done {
-        crate::record::encode(serial::reset(), bytes);
+        crate::record::encode(serial::reset_device(), bytes);
         return DONE;
     }
     refusal
 }
 
 // Reads a register.
-pub fn read(bytes: &mut [u8], offset: u32) -> Answer
+pub fn read_call(bytes: &mut [u8], offset: u32) -> Answer
     ensures { λ r. ⌜ ReadCall (now (bytes .entry)) offset r (now (bytes .exit)) ⌝ }
 {
     let refusal = record_refusal(bytes);
@@ -119,7 +119,7 @@ pub fn read(bytes: &mut [u8], offset: u32) -> Answer
 }
 
 // Writes a register.
-pub fn write(bytes: &mut [u8], offset: u32, value: u32) -> u8
+pub fn write_call(bytes: &mut [u8], offset: u32, value: u32) -> u8
     ensures { λ r. ⌜ WriteCall (now (bytes .entry)) offset value r (now (bytes .exit)) ⌝ }
 {
     let refusal = record_refusal(bytes);
@@ -138,15 +138,15 @@ pub fn write(bytes: &mut [u8], offset: u32, value: u32) -> u8
     refusal
 }
 
-// Runs cycles up to a stopping rule, and counts them.
-pub fn run(rule: Rule, bytes: &mut [u8], input: &[u8], output: &mut [u8]) -> RunAnswer
-    ensures { λ r. ⌜ RunCall rule (now (bytes .entry)) (now (input .entry)) (now (output .entry)) r (now (bytes .exit)) (now (output .exit)) ⌝ }
+// Runs cycles up to a stopping stop, and counts them.
+pub fn run_call(stop: Stop, bytes: &mut [u8], input: &[u8], output: &mut [u8]) -> RunAnswer
+    ensures { λ r. ⌜ RunCall stop (now (bytes .entry)) (now (input .entry)) (now (output .entry)) r (now (bytes .exit)) (now (output .exit)) ⌝ }
 {
     let refusal = run_refusal(bytes, input, output);
     let done = refusal == DONE;
     if done {
         let start = crate::record::decode(bytes);
-        let ran = crate::run::run_until(rule, start, input, output);
+        let ran = crate::run::run_until(stop, start, input, output);
         let device = ran.device;
         crate::record::encode(device, bytes);
         return RunAnswer {
@@ -158,7 +158,7 @@ pub fn run(rule: Rule, bytes: &mut [u8], input: &[u8], output: &mut [u8]) -> Run
 }
 
 // Runs two wired devices for so many cycles.
-pub fn pair_run(first: &mut [u8], second: &mut [u8], cycles: u64) -> u8
+pub fn pair_call(first: &mut [u8], second: &mut [u8], cycles: u64) -> u8
     ensures { λ r. ⌜ PairCall (now (first .entry)) (now (second .entry)) cycles r (now (first .exit)) (now (second .exit)) ⌝ }
 {
     let refusal = pair_refusal(first, second);

@@ -3,7 +3,7 @@ ghost use mathlib.Core.Path.{_≡_};
 ghost use Prim.Native.Nat.{_+_, _≤_, _<_};
 ghost use lib.ListN.{length, getD};
 ghost use Rattle.serial.specs.Cycle.{deviceOf};
-ghost use Rattle.device_record.specs.Record.{recordLength, wordAt, longAt, flagAt, wordsAt, linesFrom, fieldsAt, engineAt, historyAt, decodeOf, pinByte, registerBytes, engineBytes, levelBytes, wordBytes, stateBytes, queueBytes, PutAt, encodedIn, eqList, soundBytes};
+ghost use Rattle.device_record.specs.Record.{recordLength, byteAt, wordAt, longAt, flagAt, wordsAt, linesFrom, fieldsAt, engineAt, historyAt, decode, pinByte, registerBytes, engineBytes, levelBytes, wordBytes, stateBytes, queueBytes, PutAt, encode, eqList, soundBytes};
 use registers::Control;
 use registers::Masks;
 use registers::Timeout;
@@ -22,7 +22,7 @@ pub const RECORD_LENGTH: usize = 128;
 
 // A byte; 0 past the end.
 fn byte_at(bytes: &[u8], i: usize) -> u8
-    ensures { λ r. ⌜ r ≡ getD (now (bytes .entry)) i 0 ⌝ }
+    ensures { λ r. ⌜ r ≡ byteAt (now (bytes .entry)) i ⌝ }
 {
     if i < bytes.len() { bytes[i] } else { 0 }
 }
@@ -119,7 +119,7 @@ fn engine_at(bytes: &[u8]) -> Engine
     };
     Engine {
         slot: Slots(byte_at(bytes, 16) as u16),
-        gone: Cycles(word_at(bytes, 18) as u32),
+        elapsed: Cycles(word_at(bytes, 18) as u32),
         frame: flag_at(bytes, 12),
         selected: flag_at(bytes, 13),
         mark: flag_at(bytes, 14),
@@ -139,7 +139,7 @@ fn history_at(bytes: &[u8]) -> History
 
 // The device that bytes stand for; a byte past the end counts as 0.
 pub fn decode(bytes: &[u8]) -> Device
-    ensures { λ d. ⌜ deviceOf d ≡ decodeOf (now (bytes .entry)) ⌝ }
+    ensures { λ d. ⌜ deviceOf d ≡ decode (now (bytes .entry)) ⌝ }
 {
     let fields = fields_at(bytes);
     let registers = registers::fields::restored(fields);
@@ -186,7 +186,7 @@ fn register_bytes(f: Fields) -> [u8; 12]
 fn engine_bytes(e: Engine) -> [u8; 12]
     ensures { λ b. ⌜ b ≡ engineBytes e ⌝ }
 {
-    let n = e.gone.0;
+    let n = e.elapsed.0;
     [
         e.frame as u8,
         e.selected as u8,
@@ -242,7 +242,7 @@ fn word_bytes(ws: [u16; 8]) -> [u8; 16]
 }
 
 // Writes a part of a record from byte `at` on.
-fn put(bytes: &mut [u8], at: usize, part: &[u8])
+fn put_at(bytes: &mut [u8], at: usize, part: &[u8])
     requires { ⌜ at + length (now part) ≤ length (now bytes) ⌝ }
     ensures { λ _. ⌜ PutAt (now (bytes .entry)) at (now (part .entry)) (now (bytes .exit)) ⌝ }
 {
@@ -262,10 +262,10 @@ fn put_state(bytes: &mut [u8], fields: Fields, d: Device)
     let engine = engine_bytes(d.engine);
     let levels = level_bytes(d.pins, d.lines);
     let counts = [fields.waiting, fields.held, 0, 0];
-    put(bytes, 0, &registers);
-    put(bytes, 12, &engine);
-    put(bytes, 24, &levels);
-    put(bytes, 28, &counts);
+    put_at(bytes, 0, &registers);
+    put_at(bytes, 12, &engine);
+    put_at(bytes, 24, &levels);
+    put_at(bytes, 28, &counts);
 }
 
 // Bytes 32 to 127.
@@ -278,14 +278,14 @@ fn put_queues(bytes: &mut [u8], fields: Fields)
     let sending = word_bytes(tx);
     let received = word_bytes(rx);
     let spare = [0u8; 64];
-    put(bytes, 32, &sending);
-    put(bytes, 48, &received);
-    put(bytes, 64, &spare);
+    put_at(bytes, 32, &sending);
+    put_at(bytes, 48, &received);
+    put_at(bytes, 64, &spare);
 }
 
 // Writes a device into a record; bytes of another length stay.
 pub fn encode(d: Device, bytes: &mut [u8])
-    ensures { λ _. ⌜ now (bytes .exit) ≡ encodedIn (deviceOf d) (now (bytes .entry)) ⌝ }
+    ensures { λ _. ⌜ now (bytes .exit) ≡ encode (deviceOf d) (now (bytes .entry)) ⌝ }
 {
     if bytes.len() == RECORD_LENGTH {
         let fields = registers::fields::fields_of(d.registers);
@@ -295,7 +295,7 @@ pub fn encode(d: Device, bytes: &mut [u8])
 }
 
 // Whether two byte strings are the same.
-fn same(a: &[u8], b: &[u8]) -> bool
+fn eq_list(a: &[u8], b: &[u8]) -> bool
     ensures { λ r. ⌜ r ≡ eqList (now (a .entry)) (now (b .entry)) ⌝ }
 {
     if a.len() != b.len() {
@@ -314,13 +314,13 @@ fn same(a: &[u8], b: &[u8]) -> bool
 }
 
 // Whether bytes are a sound record.
-pub fn sound(bytes: &[u8]) -> bool
+pub fn sound_bytes(bytes: &[u8]) -> bool
     ensures { λ r. ⌜ r ≡ soundBytes (now (bytes .entry)) ⌝ }
 {
     let d = decode(bytes);
     let mut again = [0u8; RECORD_LENGTH];
     encode(d, &mut again);
-    let kept = same(&again, bytes);
+    let kept = eq_list(&again, bytes);
     let good = serial::sound::sound_device(d);
     kept & good
 }

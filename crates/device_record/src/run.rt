@@ -1,8 +1,8 @@
-// Runs: one cycle for each input byte, up to a stopping rule.
+// Runs: one cycle for each input byte, up to a stopping stop.
 ghost use mathlib.Core.Path.{_≡_};
 ghost use Rattle.serial.specs.Cycle.{deviceOf};
 ghost use Rattle.serial.specs.Busy.{busyDevice};
-ghost use Rattle.device_record.specs.Run.{steppedOf, inputsFit, stopsOn, RanAs};
+ghost use Rattle.device_record.specs.Run.{inputsFit, stopsOn, RunUntil};
 use registers::access::Answer;
 use serial::Device;
 
@@ -15,11 +15,11 @@ const BUSY: u16 = 16;
 const HIGHEST_INPUT: u8 = 7;
 
 // Where a run stops before its input ends.
-pub enum Rule {
+pub enum Stop {
     // nowhere
     Never,
     // where BSY is 0
-    Idle,
+    NotBusy,
 }
 
 // The cycles run, and the device after them.
@@ -44,7 +44,7 @@ pub fn inputs_fit(input: &[u8]) -> bool
 }
 
 // BSY, as a read of SR gives it.
-pub fn busy(d: Device) -> bool
+pub fn busy_device(d: Device) -> bool
     ensures { λ r. ⌜ r ≡ busyDevice (deviceOf d) ⌝ }
 {
     let reading = serial::access::read(d, STATUS);
@@ -55,25 +55,18 @@ pub fn busy(d: Device) -> bool
     status / BUSY % 2 == 1
 }
 
-fn stops(rule: Rule, d: Device) -> bool
-    ensures { λ r. ⌜ r ≡ stopsOn rule (deviceOf d) ⌝ }
+fn stops_on(stop: Stop, d: Device) -> bool
+    ensures { λ r. ⌜ r ≡ stopsOn stop (deviceOf d) ⌝ }
 {
-    match rule {
-        Rule::Never => false,
-        Rule::Idle => !busy(d),
+    match stop {
+        Stop::Never => false,
+        Stop::NotBusy => !busy_device(d),
     }
 }
 
-// A cycle with the pins of an input byte.
-fn stepped(d: Device, byte: u8) -> Device
-    ensures { λ r. ⌜ deviceOf r ≡ steppedOf (deviceOf d) byte ⌝ }
-{
-    serial::cycle::cycle(d, serial::lines::pins_of(byte))
-}
-
-// Cycles until the rule holds or the input ends; output bytes past them stay. Nothing is run where the lengths differ.
-pub fn run_until(rule: Rule, d: Device, input: &[u8], output: &mut [u8]) -> Ran
-    ensures { λ r. ⌜ RanAs (stopsOn rule) (deviceOf d) (now (input .entry)) (now (output .entry)) r (now (output .exit)) ⌝ }
+// Cycles until the stop holds or the input ends; output bytes past them stay. Nothing is run where the lengths differ.
+pub fn run_until(stop: Stop, d: Device, input: &[u8], output: &mut [u8]) -> Ran
+    ensures { λ r. ⌜ RunUntil (stopsOn stop) (deviceOf d) (now (input .entry)) (now (output .entry)) r (now (output .exit)) ⌝ }
 {
     let mut device = d;
     let mut i: usize = 0;
@@ -81,11 +74,12 @@ pub fn run_until(rule: Rule, d: Device, input: &[u8], output: &mut [u8]) -> Ran
         return Ran { count: 0, device };
     }
     while i < input.len() {
-        let done = stops(rule, device);
+        let done = stops_on(stop, device);
         if done {
             return Ran { count: i, device };
         }
-        device = stepped(device, input[i]);
+        let pins = serial::lines::pins_of(input[i]);
+        device = serial::cycle::cycle_of(device, pins);
         output[i] = serial::lines::byte_of(device.lines);
         i += 1;
     }

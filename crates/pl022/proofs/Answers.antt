@@ -7,7 +7,7 @@ use Rattle.registers.specs.declared.access.Answer.{Answer}
 use Rattle.registers.specs.declared.access.Answer.the-variants.{Word, Refused}
 use Rattle.device_record.specs.Calls.{ReadCall, RunCall}
 use Rattle.device_record.specs.declared.calls.RunAnswer.{RunAnswer}
-use Rattle.device_record.specs.declared.run.Rule.the-variants.{Never}
+use Rattle.device_record.specs.declared.run.Stop.the-variants.{Never}
 use Rattle.device_record.proofs.Answers.{run-all, output-all}
 use Rattle.pl022.specs.Results.{ReadResult, RunResult}
 

@@ -5,10 +5,10 @@ use mathlib.Core.List.{List}
 use lib.Dec.{eqb}
 use Rattle.registers.specs.Choose.{pick}
 use Rattle.registers.specs.Refusals.{done, refusalOf, wordOf}
-use Rattle.device_record.specs.Record.{decodeOf}
-use Rattle.device_record.specs.Run.{after, outputs, runRefusal}
+use Rattle.device_record.specs.Record.{decode}
+use Rattle.device_record.specs.Run.{afterBytes, outputs, runRefusal}
 use Rattle.device_record.specs.Calls.{leftBy, readCall, readLeft, runCount, runLeft, runOutput}
-use Rattle.device_record.specs.declared.run.Rule.the-variants.{Idle}
+use Rattle.device_record.specs.declared.run.Stop.the-variants.{NotBusy}
 use Rattle.pl022.specs.declared.WordResult.{WordResult}
 use Rattle.pl022.specs.declared.CountResult.{CountResult}
 
@@ -21,12 +21,12 @@ pub record ReadResult (bytes : List ℕ) (o : ℕ) (r : WordResult) (bytes′ : 
 -- A run: a cycle for each input byte, the lines of each in its place of the output.
 pub record RunResult (bytes ins outs : List ℕ) (r : ℕ) (bytes′ outs′ : List ℕ) : Type 0 where
   pub refusal : r ≡ runRefusal bytes ins outs
-  pub left : bytes′ ≡ leftBy (runRefusal bytes ins outs) (after (decodeOf bytes) ins) bytes
-  pub output : outs′ ≡ pick (eqb (runRefusal bytes ins outs) done) (outputs (decodeOf bytes) ins) outs
+  pub left : bytes′ ≡ leftBy (runRefusal bytes ins outs) (afterBytes (decode bytes) ins) bytes
+  pub output : outs′ ≡ pick (eqb (runRefusal bytes ins outs) done) (outputs (decode bytes) ins) outs
 
 -- A run to idle: as many cycles as the count says; output bytes past them stay.
 pub record IdleResult (bytes ins outs : List ℕ) (r : CountResult) (bytes′ outs′ : List ℕ) : Type 0 where
   pub refusal : r .refusal ≡ runRefusal bytes ins outs
-  pub count : r .count ≡ runCount Idle bytes ins outs
-  pub left : bytes′ ≡ runLeft Idle bytes ins outs
-  pub output : outs′ ≡ runOutput Idle bytes ins outs
+  pub count : r .count ≡ runCount NotBusy bytes ins outs
+  pub left : bytes′ ≡ runLeft NotBusy bytes ins outs
+  pub output : outs′ ≡ runOutput NotBusy bytes ins outs

@@ -1,8 +1,8 @@
 // The calls for C: numbers, the 128 bytes of a record and line bytes. include/pl022.h describes them for a C programmer.
-// Each hands its arguments to the crate below and its answer back; no rule of the device stands here.
+// Each hands its arguments to the crate below and its answer back; no stop of the device stands here.
 ghost use Rattle.device_record.specs.Calls.{ResetCall, WriteCall, PairCall};
 ghost use Rattle.pl022.specs.Results.{ReadResult, RunResult, IdleResult};
-use device_record::run::Rule;
+use device_record::run::Stop;
 use registers::access::Answer;
 
 // What a read answers.
@@ -26,7 +26,7 @@ pub struct CountResult {
 pub extern "C" fn pl022_reset(bytes: &mut [u8]) -> u32
     ensures { λ r. ⌜ ResetCall (now (bytes .entry)) r (now (bytes .exit)) ⌝ }
 {
-    device_record::calls::reset(bytes) as u32
+    device_record::calls::reset_call(bytes) as u32
 }
 
 // Reads a register.
@@ -34,7 +34,7 @@ pub extern "C" fn pl022_reset(bytes: &mut [u8]) -> u32
 pub extern "C" fn pl022_read(bytes: &mut [u8], offset: u32) -> WordResult
     ensures { λ r. ⌜ ReadResult (now (bytes .entry)) offset r (now (bytes .exit)) ⌝ }
 {
-    let answer = device_record::calls::read(bytes, offset);
+    let answer = device_record::calls::read_call(bytes, offset);
     let Answer::Word(word) = answer else {
         let refusal = device_record::calls::refusal_of(answer);
         return WordResult {
@@ -53,7 +53,7 @@ pub extern "C" fn pl022_read(bytes: &mut [u8], offset: u32) -> WordResult
 pub extern "C" fn pl022_write(bytes: &mut [u8], offset: u32, value: u32) -> u32
     ensures { λ r. ⌜ WriteCall (now (bytes .entry)) offset value r (now (bytes .exit)) ⌝ }
 {
-    device_record::calls::write(bytes, offset, value) as u32
+    device_record::calls::write_call(bytes, offset, value) as u32
 }
 
 // Runs a cycle for each input byte and writes the lines of each.
@@ -61,7 +61,7 @@ pub extern "C" fn pl022_write(bytes: &mut [u8], offset: u32, value: u32) -> u32
 pub extern "C" fn pl022_run(bytes: &mut [u8], input: &[u8], output: &mut [u8]) -> u32
     ensures { λ r. ⌜ RunResult (now (bytes .entry)) (now (input .entry)) (now (output .entry)) r (now (bytes .exit)) (now (output .exit)) ⌝ }
 {
-    let end = device_record::calls::run(Rule::Never, bytes, input, output);
+    let end = device_record::calls::run_call(Stop::Never, bytes, input, output);
     end.refusal as u32
 }
 
@@ -74,7 +74,7 @@ pub extern "C" fn pl022_run_to_idle(
 ) -> CountResult
     ensures { λ r. ⌜ IdleResult (now (bytes .entry)) (now (input .entry)) (now (output .entry)) r (now (bytes .exit)) (now (output .exit)) ⌝ }
 {
-    let end = device_record::calls::run(Rule::Idle, bytes, input, output);
+    let end = device_record::calls::run_call(Stop::NotBusy, bytes, input, output);
     CountResult {
         refusal: end.refusal as u64,
         count: end.count as u64,
@@ -86,5 +86,5 @@ pub extern "C" fn pl022_run_to_idle(
 pub extern "C" fn pl022_pair_run(first: &mut [u8], second: &mut [u8], cycles: u64) -> u32
     ensures { λ r. ⌜ PairCall (now (first .entry)) (now (second .entry)) cycles r (now (first .exit)) (now (second .exit)) ⌝ }
 {
-    device_record::calls::pair_run(first, second, cycles) as u32
+    device_record::calls::pair_call(first, second, cycles) as u32
 }

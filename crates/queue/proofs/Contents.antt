@@ -15,7 +15,7 @@ use Rattle.queue.specs.declared.Added.{Added}
 use Rattle.queue.specs.declared.Taken.{Taken}
 use Rattle.queue.specs.declared.Oldest.the-variants.{Word, Nothing}
 use Rattle.queue.specs.Fifo.Inside.{contents-of, clean-intro, clean-elim}
-use Rattle.queue.specs.Fifo.{contents, Clean, usedWord, added, rest, oldest, AddedTo, TakenFrom, RestoredFrom}
+use Rattle.queue.specs.Fifo.{contents, Clean, usedWord, added, rest, oldest, Empty, Add, TakeOldest, Restored}
 
 -- the count
 
@@ -33,12 +33,12 @@ zeros zero (suc i) = refl
 zeros (suc n) zero = refl
 zeros (suc n) (suc i) = zeros n i
 
-pub empty-holds : (contents (record { words = replicate 8 0; count = 0 }) ≡ []) × Clean (record { words = replicate 8 0; count = 0 })
-empty-holds = (contents-of _, clean-intro _ (λ i h. zeros 8 i))
+pub empty-holds : Empty (record { words = replicate 8 0; count = 0 })
+empty-holds = record { holds = contents-of _; clean = clean-intro _ (λ i h. zeros 8 i) }
 
 -- adding a word
 
-pub added-full : (q : Queue) (w : ℕ) → length (q .words) ≡ 8 → 8 ≤ q .count → AddedTo q w (record { kept = false; queue = q })
+pub added-full : (q : Queue) (w : ℕ) → length (q .words) ≡ 8 → 8 ≤ q .count → Add q w (record { kept = false; queue = q })
 unfolding added
 added-full q w long h =
     record {
@@ -47,7 +47,7 @@ added-full q w long h =
       clean = λ c. c;
     }
 
-pub added-room : (q : Queue) (w : ℕ) → length (q .words) ≡ 8 → q .count < 8 → AddedTo q w (record { kept = true; queue = record { words = set (q .words) (q .count) w; count = q .count + 1 } })
+pub added-room : (q : Queue) (w : ℕ) → length (q .words) ≡ 8 → q .count < 8 → Add q w (record { kept = true; queue = record { words = set (q .words) (q .count) w; count = q .count + 1 } })
 unfolding added
 added-room q w long h =
     record {
@@ -58,10 +58,10 @@ added-room q w long h =
 
 -- taking the oldest word
 
-pub taken-none : (q : Queue) → length (contents q) ≡ 0 → TakenFrom q (record { oldest = Nothing; queue = q })
+pub taken-none : (q : Queue) → length (contents q) ≡ 0 → TakeOldest q (record { oldest = Nothing; queue = q })
 taken-none q e = go (contents q) refl e
   where
-    go : (xs : List ℕ) → contents q ≡ xs → length xs ≡ 0 → TakenFrom q (record { oldest = Nothing; queue = q })
+    go : (xs : List ℕ) → contents q ≡ xs → length xs ≡ 0 → TakeOldest q (record { oldest = Nothing; queue = q })
     go [] h e = record { word = rw h; holds = rw h; clean = λ c. c }
     go (x ∷ xs) h e = absurd (omega arith)
 
@@ -96,7 +96,7 @@ past-end l k n i long e h c = go (decLt i k)
     go (yes p) = List·getD-eq-default l 0 {n = i} (let m = length-take k l in omega arith)
     go (no p) = c i (omega arith)
 
-pub taken-some : (q : Queue) (ws : List ℕ) (n : ℕ) → length (q .words) ≡ 8 → n ≡ length (contents q) → (n ≡ 0 → ⊥) → ws ≡ drop 1 (q .words) ++ (0 ∷ []) → TakenFrom q (record { oldest = Word (getD (q .words) 0 0); queue = record { words = ws; count = n - 1 } })
+pub taken-some : (q : Queue) (ws : List ℕ) (n : ℕ) → length (q .words) ≡ 8 → n ≡ length (contents q) → (n ≡ 0 → ⊥) → ws ≡ drop 1 (q .words) ++ (0 ∷ []) → TakeOldest q (record { oldest = Word (getD (q .words) 0 0); queue = record { words = ws; count = n - 1 } })
 taken-some q ws n long e z s =
     let k : n ≡ length (take (q .count) (q .words)) = e ∙ ap length (contents-of q) in
     let m : n ≤ 8 = rw (k, length-take) (omega arith) in
@@ -141,7 +141,7 @@ eight : (l : List ℕ) → length l ≡ 8 → l ≡ getD l 0 0 ∷ getD l 1 0 �
 eight l long =
     drop-cons l 0 0 (omega arith) ∙ rw (drop-cons l 1 0 (omega arith), drop-cons l 2 0 (omega arith), drop-cons l 3 0 (omega arith), drop-cons l 4 0 (omega arith), drop-cons l 5 0 (omega arith), drop-cons l 6 0 (omega arith), drop-cons l 7 0 (omega arith), drop-of-length-le l {i = 8} (omega arith))
 
-pub restored-from : (l : List ℕ) (n : ℕ) → length l ≡ 8 → RestoredFrom l n (record { words = usedWord n 0 (getD l 0 0) ∷ usedWord n 1 (getD l 1 0) ∷ usedWord n 2 (getD l 2 0) ∷ usedWord n 3 (getD l 3 0) ∷ usedWord n 4 (getD l 4 0) ∷ usedWord n 5 (getD l 5 0) ∷ usedWord n 6 (getD l 6 0) ∷ usedWord n 7 (getD l 7 0) ∷ []; count = n })
+pub restored-from : (l : List ℕ) (n : ℕ) → length l ≡ 8 → Restored l n (record { words = usedWord n 0 (getD l 0 0) ∷ usedWord n 1 (getD l 1 0) ∷ usedWord n 2 (getD l 2 0) ∷ usedWord n 3 (getD l 3 0) ∷ usedWord n 4 (getD l 4 0) ∷ usedWord n 5 (getD l 5 0) ∷ usedWord n 6 (getD l 6 0) ∷ usedWord n 7 (getD l 7 0) ∷ []; count = n })
 unfolding usedFrom
 restored-from l n long =
     let e : usedFrom n 0 l ≡ usedWord n 0 (getD l 0 0) ∷ usedWord n 1 (getD l 1 0) ∷ usedWord n 2 (getD l 2 0) ∷ usedWord n 3 (getD l 3 0) ∷ usedWord n 4 (getD l 4 0) ∷ usedWord n 5 (getD l 5 0) ∷ usedWord n 6 (getD l 6 0) ∷ usedWord n 7 (getD l 7 0) ∷ [] = ap (usedFrom n 0) (eight l long) in

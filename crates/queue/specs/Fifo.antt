@@ -38,24 +38,33 @@ abbrev pub rest : List ℕ → List ℕ
 rest [] = []
 rest (x ∷ xs) = xs
 
+-- The word at a place, the oldest at 0; zero past the last.
+abbrev pub wordAt : List ℕ → ℕ → ℕ
+wordAt xs i = getD xs i 0
+
 -- A word goes behind the others, unless eight are held.
 unfoldable pub added : List ℕ → ℕ → List ℕ
 added xs w = pick (ltb (length xs) places) (xs ++ (w ∷ [])) xs
 
-pub record CountOf (q : Queue) (r : ℕ) : Type 0 where
+-- No word is held.
+pub record Empty (r : Queue) : Type 0 where
+  pub holds : contents r ≡ []
+  pub clean : Clean r
+
+pub record Count (q : Queue) (r : ℕ) : Type 0 where
   pub count : r ≡ length (contents q)
   pub most : r ≤ places
 
-pub record AddedTo (q : Queue) (w : ℕ) (r : Added) : Type 0 where
+pub record Add (q : Queue) (w : ℕ) (r : Added) : Type 0 where
   pub kept : r .kept ≡ ltb (length (contents q)) places
   pub holds : contents (r .queue) ≡ added (contents q) w
   pub clean : Clean q → Clean (r .queue)
 
-pub record TakenFrom (q : Queue) (r : Taken) : Type 0 where
+pub record TakeOldest (q : Queue) (r : Taken) : Type 0 where
   pub word : r .oldest ≡ oldest (contents q)
   pub holds : contents (r .queue) ≡ rest (contents q)
   pub clean : Clean q → Clean (r .queue)
 
-pub record RestoredFrom (words : List ℕ) (count : ℕ) (r : Queue) : Type 0 where
+pub record Restored (words : List ℕ) (count : ℕ) (r : Queue) : Type 0 where
   pub holds : contents r ≡ take count words
   pub clean : Clean r

@@ -1,9 +1,7 @@
 // A queue of at most eight 16-bit words, first in, first out.
 // Every function takes any value: a stored count above eight acts as eight.
 ghost use mathlib.Core.Path.{_≡_};
-ghost use mathlib.Core.List.{[]};
-ghost use lib.ListN.{getD};
-ghost use Rattle.queue.specs.Fifo.{contents, Clean, usedWord, CountOf, AddedTo, TakenFrom, RestoredFrom};
+ghost use Rattle.queue.specs.Fifo.{contents, usedWord, wordAt, Empty, Count, Add, TakeOldest, Restored};
 
 // How many words fit.
 pub const PLACES: usize = 8;
@@ -34,7 +32,7 @@ pub struct Taken {
 
 // The queue that holds nothing.
 pub fn empty() -> Queue
-    ensures { λ r. ⌜ (contents r ≡ []) × Clean r ⌝ }
+    ensures { λ r. ⌜ Empty r ⌝ }
 {
     Queue {
         words: [0; 8],
@@ -44,7 +42,7 @@ pub fn empty() -> Queue
 
 // How many words it holds.
 pub fn count(q: Queue) -> usize
-    ensures { λ r. ⌜ CountOf q r ⌝ }
+    ensures { λ r. ⌜ Count q r ⌝ }
 {
     let n = q.count;
     if n < PLACES { n } else { PLACES }
@@ -52,7 +50,7 @@ pub fn count(q: Queue) -> usize
 
 // The queue with one word more at its end; a full queue stays as it is.
 pub fn add(q: Queue, word: u16) -> Added
-    ensures { λ r. ⌜ AddedTo q word r ⌝ }
+    ensures { λ r. ⌜ Add q word r ⌝ }
 {
     let n = q.count;
     if PLACES <= n {
@@ -72,7 +70,7 @@ pub fn add(q: Queue, word: u16) -> Added
 
 // The oldest word, taken out; the others move one place to the front.
 pub fn take_oldest(q: Queue) -> Taken
-    ensures { λ r. ⌜ TakenFrom q r ⌝ }
+    ensures { λ r. ⌜ TakeOldest q r ⌝ }
 {
     let n = count(q);
     if n == 0 {
@@ -95,7 +93,7 @@ pub fn take_oldest(q: Queue) -> Taken
 
 // The word at a place, counted from the oldest; 0 past the last.
 pub fn word_at(q: Queue, place: usize) -> u16
-    ensures { λ r. ⌜ r ≡ getD (contents q) place 0 ⌝ }
+    ensures { λ r. ⌜ r ≡ wordAt (contents q) place ⌝ }
 {
     let n = count(q);
     if place < n {
@@ -107,7 +105,7 @@ pub fn word_at(q: Queue, place: usize) -> u16
 }
 
 // The word of a place that is in use; 0 for one that is not.
-fn used(count: usize, place: usize, word: u16) -> u16
+fn used_word(count: usize, place: usize, word: u16) -> u16
     ensures { λ r. ⌜ r ≡ usedWord count place word ⌝ }
 {
     if place < count { word } else { 0 }
@@ -115,17 +113,17 @@ fn used(count: usize, place: usize, word: u16) -> u16
 
 // The queue that holds the first words of the eight, as many as the count says.
 pub fn restored(words: [u16; 8], count: usize) -> Queue
-    ensures { λ r. ⌜ RestoredFrom words count r ⌝ }
+    ensures { λ r. ⌜ Restored words count r ⌝ }
 {
     let clean = [
-        used(count, 0, words[0]),
-        used(count, 1, words[1]),
-        used(count, 2, words[2]),
-        used(count, 3, words[3]),
-        used(count, 4, words[4]),
-        used(count, 5, words[5]),
-        used(count, 6, words[6]),
-        used(count, 7, words[7]),
+        used_word(count, 0, words[0]),
+        used_word(count, 1, words[1]),
+        used_word(count, 2, words[2]),
+        used_word(count, 3, words[3]),
+        used_word(count, 4, words[4]),
+        used_word(count, 5, words[5]),
+        used_word(count, 6, words[6]),
+        used_word(count, 7, words[7]),
     ];
     Queue {
         words: clean,

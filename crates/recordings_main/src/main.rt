@@ -65,13 +65,13 @@ fn loaded(d: Device, words: &[u32]) -> Device {
 
 // A device from reset: CR0, CPSR, the words to send, CR1.
 fn set_up(cr0: u32, cpsr: u32, words: &[u32], cr1: u32) -> Device {
-    let quiet = written(written(serial::reset(), CR0, cr0), CPSR, cpsr);
+    let quiet = written(written(serial::reset_device(), CR0, cr0), CPSR, cpsr);
     written(loaded(quiet, words), CR1, cr1)
 }
 
 // A cycle, with its lines printed.
 fn shown(d: Device, input: u8) -> Device {
-    let next = serial::cycle::cycle(d, serial::lines::pins_of(input));
+    let next = serial::cycle::cycle_of(d, serial::lines::pins_of(input));
     put_lines(next);
     next
 }

@@ -68,12 +68,12 @@ fn read(r: Registers, offset: u32, frame: bool) -> Outcome {
 
 fn take(r: Registers) -> Outcome {
     let w = transfer::next_word(r);
-    word(w as u32, transfer::word_taken(r))
+    word(w as u32, transfer::take_word(r))
 }
 
 fn half(r: Registers) -> Outcome {
     let s = settings::settings_of(r);
-    word(s.half as u32, r)
+    word(s.divisor.0 as u32, r)
 }
 
 fn bits(r: Registers) -> Outcome {
@@ -87,7 +87,7 @@ fn set(r: Registers, offset: u32, value: u32) -> Registers {
 }
 
 fn enabled(cr0: u32, cpsr: u32) -> Registers {
-    let a = set(registers::reset(), CR0, cr0);
+    let a = set(registers::reset_registers(), CR0, cr0);
     let b = set(a, CPSR, cpsr);
     set(b, CR1, 0x2)
 }
@@ -107,7 +107,7 @@ fn arrive(r: Registers, n: u16) -> Registers {
     let mut i: u16 = 0;
     while i < n {
         i = i + 1;
-        next = transfer::receive(next, i);
+        next = transfer::receive_word(next, i);
     }
     next
 }
@@ -125,7 +125,7 @@ fn cycles(r: Registers, n: u32) -> Registers {
 // `last` is the command's last number, `first` the one before it.
 pub(crate) fn run(r: Registers, letter: u8, first: u32, last: u32) -> Outcome {
     match letter {
-        b's' => done(registers::reset()),
+        b's' => done(registers::reset_registers()),
         b'e' => done(enabled(first, last)),
         b'w' => write(r, first, last),
         b'r' => read(r, last, false),

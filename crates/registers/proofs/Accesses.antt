@@ -9,11 +9,11 @@ use Rattle.registers.specs.Choose.{pick, bitAt, bitsDiffer}
 use Rattle.registers.proofs.Picks.{pick-yes, pick-no, pick-both, and-off, under-off, both-absurd}
 use Rattle.registers.specs.Refusals.{firstOf}
 use Rattle.registers.specs.Model.{Model}
-use Rattle.registers.specs.Offsets.{placeOf}
+use Rattle.registers.specs.Offsets.{registerOf}
 use Rattle.registers.specs.Settings.{enabledOf, permittedOf}
 use Rattle.registers.specs.Access.{readRefusal, readDone, readModel, dataTaken, bitsBeyond, cr0Rule, cr1Rule, cpsrRule, writeRefusal, cr1Written, icrWritten, drWritten, imscWritten, dmacrWritten, writeDone, writeModel}
-use Rattle.registers.specs.declared.offsets.Place.{Place}
-use Rattle.registers.specs.declared.offsets.Place.the-variants.{Cr0, Cr1, Dr, Sr, Cpsr, Imsc, Ris, Mis, Icr, Dmacr, Identity, Reserved, Outside}
+use Rattle.registers.specs.declared.offsets.Register.{Register}
+use Rattle.registers.specs.declared.offsets.Register.the-variants.{Cr0, Cr1, Dr, Sr, Cpsr, Imsc, Ris, Mis, Icr, Dmacr, Identity, Reserved, Outside}
 
 -- What a done write says ---------------------------------------------------------------------------------------------
 
@@ -83,7 +83,7 @@ cpsr-done m v h =
 
 -- a read leaves them
 
-control-place : (m : Model) (p : Place) → readDone m p .control ≡ m .control
+control-place : (m : Model) (p : Register) → readDone m p .control ≡ m .control
 unfolding dataTaken
 control-place m Cr0 = refl
 control-place m Cr1 = refl
@@ -102,7 +102,7 @@ control-place m Outside = refl
 pub control-read : (m : Model) (o : ℕ) → readModel m o .control ≡ m .control
 unfolding readModel
 control-read m o =
-    pick-both (λ (x : Model). x .control ≡ m .control) (eqb (readRefusal m (placeOf o)) 0) _ _ (λ _. control-place m (placeOf o)) (λ _. refl)
+    pick-both (λ (x : Model). x .control ≡ m .control) (eqb (readRefusal m (registerOf o)) 0) _ _ (λ _. control-place m (registerOf o)) (λ _. refl)
 
 -- a write leaves CR0 and CPSR while SSE is 1
 
@@ -110,7 +110,7 @@ pub record SameDivider (m n : Model) : Type 0 where
   pub cr0 : n .control .cr0 ≡ m .control .cr0
   pub cpsr : n .control .cpsr ≡ m .control .cpsr
 
-divider-written : (m : Model) (p : Place) (v : ℕ) → enabledOf (m .control) ≡ true → writeRefusal m p v ≡ 0 → SameDivider m (writeDone m p v)
+divider-written : (m : Model) (p : Register) (v : ℕ) → enabledOf (m .control) ≡ true → writeRefusal m p v ≡ 0 → SameDivider m (writeDone m p v)
 unfolding cr1Written icrWritten drWritten imscWritten dmacrWritten
 divider-written m Cr0 v e r = both-absurd (enabledOf (m .control)) e (cr0-done m v r .clear)
 divider-written m Cr1 v e r = record { cr0 = refl; cpsr = refl }
@@ -129,5 +129,5 @@ divider-written m Outside v e r = record { cr0 = refl; cpsr = refl }
 pub divider-write : (m : Model) (o v : ℕ) → enabledOf (m .control) ≡ true → SameDivider m (writeModel m o v)
 unfolding writeModel
 divider-write m o v e =
-    pick-both (λ (x : Model). SameDivider m x) (eqb (writeRefusal m (placeOf o) v) 0) _ _
-    (λ r. divider-written m (placeOf o) v e (eqb-true _ _ r)) (λ _. record { cr0 = refl; cpsr = refl })
+    pick-both (λ (x : Model). SameDivider m x) (eqb (writeRefusal m (registerOf o) v) 0) _ _
+    (λ r. divider-written m (registerOf o) v e (eqb-true _ _ r)) (λ _. record { cr0 = refl; cpsr = refl })

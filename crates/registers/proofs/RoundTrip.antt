@@ -9,7 +9,7 @@ use lib.Dec.{ltb, leb, eqb}
 use borrow.Author.Tests.{ltb-true, leb-true}
 use Rattle.registers.proofs.Picks.{and-left, and-right}
 use Rattle.registers.specs.Model.{Model}
-use Rattle.registers.specs.Fields.{places, fieldsOf, modelFrom}
+use Rattle.registers.specs.Fields.{places, fieldsOf, restored}
 use Rattle.registers.specs.Settings.{permittedOf}
 use Rattle.registers.specs.Sound.{controlSound, masksSound, queuesSound, soundRegisters, wordsFit, registersFit}
 
@@ -27,8 +27,8 @@ take-places (a ∷ b ∷ c ∷ d ∷ e ∷ f ∷ g ∷ []) h = refl
 take-places (a ∷ b ∷ c ∷ d ∷ e ∷ f ∷ g ∷ i ∷ []) h = refl
 take-places (a ∷ b ∷ c ∷ d ∷ e ∷ f ∷ g ∷ i ∷ j ∷ ws) h = absurd (omega arith)
 
-pub model-fields : (m : Model) → length (m .tx) ≤ 8 → length (m .rx) ≤ 8 → modelFrom (fieldsOf m) ≡ m
-unfolding modelFrom fieldsOf
+pub model-fields : (m : Model) → length (m .tx) ≤ 8 → length (m .rx) ≤ 8 → restored (fieldsOf m) ≡ m
+unfolding restored fieldsOf
 model-fields m h k = rw (take-places (m .tx) h, take-places (m .rx) k)
 
 -- each word that fits, and those past the last

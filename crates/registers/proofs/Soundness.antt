@@ -12,33 +12,33 @@ use Rattle.queue.specs.Fifo.{added, rest}
 use Rattle.registers.specs.Choose.{bitAt}
 use Rattle.registers.proofs.Picks.{pick-yes, pick-no, pick-both, and-left, and-right, and-both, or-right, under-told, under-tell, not-told, not-tell, both-absurd}
 use Rattle.registers.specs.Time.{cyclesOf}
-use Rattle.registers.specs.Model.{Model, resetModel}
-use Rattle.registers.specs.Offsets.{placeOf}
-use Rattle.registers.specs.Settings.{permittedOf, enabledOf, halfOf, bitsOf, formatOf}
+use Rattle.registers.specs.Model.{Model, resetRegisters}
+use Rattle.registers.specs.Offsets.{registerOf}
+use Rattle.registers.specs.Settings.{permittedOf, enabledOf, divisorOf, bitsOf, formatOf}
 use Rattle.registers.specs.Access.{readRefusal, readDone, readModel, dataTaken, keptCount, writeRefusal, cr0Written, cr1Written, cpsrWritten, icrWritten, drWritten, imscWritten, dmacrWritten, writeDone, writeModel}
 use Rattle.registers.proofs.Accesses.{cr0-done, cr1-done, cpsr-done}
-use Rattle.registers.specs.Transfer.{nextWord, limitOf, idlesOf, timeoutOf, sentModel, receivedModel, endedModel}
+use Rattle.registers.specs.Transfer.{nextWord, limitOf, idlesOf, timeoutOf, takeWord, receiveWord, endCycle}
 use Rattle.registers.specs.Sound.{controlSound, masksSound, queuesSound, countSound, soundRegisters, wordsFit, registersFit}
 use Rattle.registers.specs.declared.Control.{Control}
 use Rattle.registers.specs.declared.Timeout.{Timeout}
 use Rattle.registers.specs.declared.time.Cycles.{Cycles}
-use Rattle.registers.specs.declared.offsets.Place.{Place}
-use Rattle.registers.specs.declared.offsets.Place.the-variants.{Cr0, Cr1, Dr, Sr, Cpsr, Imsc, Ris, Mis, Icr, Dmacr, Identity, Reserved, Outside}
+use Rattle.registers.specs.declared.offsets.Register.{Register}
+use Rattle.registers.specs.declared.offsets.Register.the-variants.{Cr0, Cr1, Dr, Sr, Cpsr, Imsc, Ris, Mis, Icr, Dmacr, Identity, Reserved, Outside}
 use Rattle.registers.specs.declared.settings.Format.{Format}
 use Rattle.registers.specs.declared.settings.Format.the-variants.{Reserved as ReservedFormat}
 
 -- The tests as facts -------------------------------------------------------------------------------------------------
 
-pub record ControlTold (c : Control) : Type 0 where
+pub record ControlFacts (c : Control) : Type 0 where
   pub shape : (eqb (c .cr0) 0 || permittedOf (c .cr0)) ≡ true
   pub even : c .cpsr % 2 ≡ 0
   pub cr1 : c .cr1 ≤ 15
   pub permitted : enabledOf c ≡ true → permittedOf (c .cr0) ≡ true
   pub divided : enabledOf c ≡ true → 1 ≤ c .cpsr
 
-pub control-told : (c : Control) → controlSound c ≡ true → ControlTold c
+pub control-elim : (c : Control) → controlSound c ≡ true → ControlFacts c
 unfolding controlSound
-control-told c h =
+control-elim c h =
     let a = and-left ((eqb (c .cr0) 0 || permittedOf (c .cr0)) && eqb (c .cpsr % 2) 0) _ h in
     let b = and-right ((eqb (c .cr0) 0 || permittedOf (c .cr0)) && eqb (c .cpsr % 2) 0) _ h in
     let u = under-told (enabledOf c) _ (and-right (leb (c .cr1) 15) _ b) in
@@ -50,7 +50,7 @@ control-told c h =
       divided = λ k. let z = eqb-false (c .cpsr) 0 (not-told _ (and-right (permittedOf (c .cr0)) _ (u k))) in omega arith;
     }
 
-pub control-tell : (c : Control) → ControlTold c → controlSound c ≡ true
+pub control-tell : (c : Control) → ControlFacts c → controlSound c ≡ true
 unfolding controlSound
 control-tell c t =
     and-both _ _ (and-both _ _ (t .shape) (eq-eqb _ _ (t .even)))
@@ -58,28 +58,28 @@ control-tell c t =
     (under-tell (enabledOf c) _ (λ k. and-both _ _ (t .permitted k) (not-tell _ (ne-eqb (c .cpsr) 0 (λ z. let o = t .divided k in omega arith))))))
 
 -- The timeout's count: below 64 slots with SSE set, 0 with SSE clear.
-pub record CountTold (c : Control) (n : ℕ) : Type 0 where
-  pub running : enabledOf c ≡ true → n < 64 * halfOf c
+pub record CountFacts (c : Control) (n : ℕ) : Type 0 where
+  pub running : enabledOf c ≡ true → n < 64 * divisorOf c .0
   pub stopped : enabledOf c ≡ false → n ≡ 0
 
 pub record Told (m : Model) : Type 0 where
-  pub control : ControlTold (m .control)
+  pub control : ControlFacts (m .control)
   pub imsc : m .masks .imsc ≤ 15
   pub dmacr : m .masks .dmacr ≤ 3
   pub tx : length (m .tx) ≤ 8
   pub rx : length (m .rx) ≤ 8
-  pub count : CountTold (m .control) (m .timeout .count .0)
+  pub count : CountFacts (m .control) (m .timeout .count .0)
 
-pub sound-told : (m : Model) → soundRegisters m ≡ true → Told m
+pub sound-elim : (m : Model) → soundRegisters m ≡ true → Told m
 unfolding soundRegisters masksSound queuesSound countSound limitOf cyclesOf
-sound-told m h =
+sound-elim m h =
     let a = and-left (controlSound (m .control) && masksSound (m .masks)) _ h in
     let b = and-right (controlSound (m .control) && masksSound (m .masks)) _ h in
     let k = and-right (controlSound (m .control)) _ a in
     let q = and-left (queuesSound m) _ b in
     let n = and-right (queuesSound m) _ b in
     record {
-      control = control-told (m .control) (and-left (controlSound (m .control)) _ a);
+      control = control-elim (m .control) (and-left (controlSound (m .control)) _ a);
       imsc = leb-true _ _ (and-left (leb (m .masks .imsc) 15) _ k);
       dmacr = leb-true _ _ (and-right (leb (m .masks .imsc) 15) _ k);
       tx = leb-true _ _ (and-left (leb (length (m .tx)) 8) _ q);
@@ -99,13 +99,13 @@ sound-tell m t =
 
 -- What SSE set means -------------------------------------------------------------------------------------------------
 
-pub half-positive : (c : Control) → ControlTold c → enabledOf c ≡ true → 1 ≤ halfOf c
-unfolding halfOf
-half-positive c t e = mul-pos (let o = t .divided e in let v = t .even in omega arith) (omega arith)
+pub divisor-positive : (c : Control) → ControlFacts c → enabledOf c ≡ true → 1 ≤ divisorOf c .0
+unfolding divisorOf
+divisor-positive c t e = mul-pos (let o = t .divided e in let v = t .even in omega arith) (omega arith)
 
-pub half-most : (c : Control) → c .cpsr < 256 → halfOf c ≤ 32512
-unfolding halfOf
-half-most c h = mul-le-mul {n₂ = 127} {m₂ = 256} (omega arith) (omega arith)
+pub divisor-most : (c : Control) → c .cpsr < 256 → divisorOf c .0 ≤ 32512
+unfolding divisorOf
+divisor-most c h = mul-le-mul {n₂ = 127} {m₂ = 256} (omega arith) (omega arith)
 
 pub bits-least : (cr0 : ℕ) → permittedOf cr0 ≡ true → 4 ≤ bitsOf cr0
 unfolding permittedOf bitsOf
@@ -124,24 +124,24 @@ format-known cr0 h =
     (λ c _. let l = ltb-true (cr0 / 16 % 4) 3 (and-left (ltb (cr0 / 16 % 4) 3) _ h) in omega (arith, eqb-false (cr0 / 16 % 4) 0 a, eqb-false (cr0 / 16 % 4) 1 b, eqb-false (cr0 / 16 % 4) 2 c))))
 
 -- all of it, of a sound control with SSE set
-pub record EnabledTold (c : Control) : Type 0 where
-  pub half : 1 ≤ halfOf c
+pub record EnabledFacts (c : Control) : Type 0 where
+  pub divisor : 1 ≤ divisorOf c .0
   pub least : 4 ≤ bitsOf (c .cr0)
   pub most : bitsOf (c .cr0) ≤ 16
   pub format : formatOf (c .cr0) ≡ ReservedFormat → ⊥
 
-pub enabled-told : (c : Control) → controlSound c ≡ true → enabledOf c ≡ true → EnabledTold c
+pub enabled-told : (c : Control) → controlSound c ≡ true → enabledOf c ≡ true → EnabledFacts c
 enabled-told c h e =
-    let t = control-told c h in
+    let t = control-elim c h in
     record {
-      half = half-positive c t e;
+      divisor = divisor-positive c t e;
       least = bits-least (c .cr0) (t .permitted e);
       most = bits-most (c .cr0);
       format = format-known (c .cr0) (t .permitted e);
     }
 
-count-zero : (c : Control) → ControlTold c → CountTold c 0
-count-zero c t = record { running = λ e. let p = half-positive c t e in omega arith; stopped = λ _. refl }
+count-zero : (c : Control) → ControlFacts c → CountFacts c 0
+count-zero c t = record { running = λ e. let p = divisor-positive c t e in omega arith; stopped = λ _. refl }
 
 -- Queues -------------------------------------------------------------------------------------------------------------
 
@@ -156,39 +156,39 @@ added-most xs w h =
 
 -- Reset and the engine's steps ---------------------------------------------------------------------------------------
 
-pub sound-reset : soundRegisters resetModel ≡ true
+pub sound-reset : soundRegisters resetRegisters ≡ true
 unfolding soundRegisters controlSound masksSound queuesSound countSound enabledOf permittedOf
 sound-reset = refl
 
-pub sound-sent : (m : Model) → soundRegisters m ≡ true → soundRegisters (sentModel m) ≡ true
-unfolding sentModel
+pub sound-sent : (m : Model) → soundRegisters m ≡ true → soundRegisters (takeWord m) ≡ true
+unfolding takeWord
 sound-sent m h =
-    let t = sound-told m h in
+    let t = sound-elim m h in
     sound-tell _ (record { control = t .control; imsc = t .imsc; dmacr = t .dmacr; tx = rest-most (m .tx) (t .tx); rx = t .rx; count = t .count })
 
-pub sound-received : (m : Model) (w : ℕ) → soundRegisters m ≡ true → soundRegisters (receivedModel m w) ≡ true
-unfolding receivedModel
+pub sound-received : (m : Model) (w : ℕ) → soundRegisters m ≡ true → soundRegisters (receiveWord m w) ≡ true
+unfolding receiveWord
 sound-received m w h =
-    let t = sound-told m h in
+    let t = sound-elim m h in
     sound-tell _ (record { control = t .control; imsc = t .imsc; dmacr = t .dmacr; tx = t .tx; rx = added-most (m .rx) w (t .rx); count = t .count })
 
 -- the count at the end of a cycle
-count-ended : (m : Model) (frame : Bool) → Told m → CountTold (m .control) (timeoutOf m frame .count .0)
+count-ended : (m : Model) (frame : Bool) → Told m → CountFacts (m .control) (timeoutOf m frame .count .0)
 unfolding timeoutOf limitOf cyclesOf idlesOf
 count-ended m frame t =
-    pick-both (λ (x : Timeout). CountTold (m .control) (x .count .0)) (idlesOf m frame) _ _
-    (λ i. pick-both (λ (x : Timeout). CountTold (m .control) (x .count .0)) (leb (64 * halfOf (m .control)) (m .timeout .count .0 + 1)) _ _
+    pick-both (λ (x : Timeout). CountFacts (m .control) (x .count .0)) (idlesOf m frame) _ _
+    (λ i. pick-both (λ (x : Timeout). CountFacts (m .control) (x .count .0)) (leb (64 * divisorOf (m .control) .0) (m .timeout .count .0 + 1)) _ _
     (λ _. count-zero (m .control) (t .control))
     (λ k. record {
-      running = λ _. let l = leb-false (64 * halfOf (m .control)) (m .timeout .count .0 + 1) k in omega arith;
+      running = λ _. let l = leb-false (64 * divisorOf (m .control) .0) (m .timeout .count .0 + 1) k in omega arith;
       stopped = λ e. both-absurd (enabledOf (m .control)) (and-right (not (eqb (length (m .rx)) 0)) _ (and-left (not (eqb (length (m .rx)) 0) && enabledOf (m .control)) _ i)) e;
     }))
     (λ _. count-zero (m .control) (t .control))
 
-pub sound-ended : (m : Model) (frame : Bool) → soundRegisters m ≡ true → soundRegisters (endedModel m frame) ≡ true
-unfolding endedModel
+pub sound-ended : (m : Model) (frame : Bool) → soundRegisters m ≡ true → soundRegisters (endCycle m frame) ≡ true
+unfolding endCycle
 sound-ended m frame h =
-    let t = sound-told m h in
+    let t = sound-elim m h in
     sound-tell _ (record { control = t .control; imsc = t .imsc; dmacr = t .dmacr; tx = t .tx; rx = t .rx; count = count-ended m frame t })
 
 -- Reading ------------------------------------------------------------------------------------------------------------
@@ -196,10 +196,10 @@ sound-ended m frame h =
 sound-taken : (m : Model) → soundRegisters m ≡ true → soundRegisters (dataTaken m) ≡ true
 unfolding dataTaken
 sound-taken m h =
-    let t = sound-told m h in
+    let t = sound-elim m h in
     sound-tell _ (record { control = t .control; imsc = t .imsc; dmacr = t .dmacr; tx = t .tx; rx = rest-most (m .rx) (t .rx); count = count-zero (m .control) (t .control) })
 
-sound-place : (m : Model) (p : Place) → soundRegisters m ≡ true → soundRegisters (readDone m p) ≡ true
+sound-place : (m : Model) (p : Register) → soundRegisters m ≡ true → soundRegisters (readDone m p) ≡ true
 sound-place m Cr0 h = h
 sound-place m Cr1 h = h
 sound-place m Dr h = sound-taken m h
@@ -216,14 +216,14 @@ sound-place m Outside h = h
 
 pub sound-read : (m : Model) (o : ℕ) → soundRegisters m ≡ true → soundRegisters (readModel m o) ≡ true
 unfolding readModel
-sound-read m o h = pick-both (λ (x : Model). soundRegisters x ≡ true) (eqb (readRefusal m (placeOf o)) 0) _ _ (λ _. sound-place m (placeOf o) h) (λ _. h)
+sound-read m o h = pick-both (λ (x : Model). soundRegisters x ≡ true) (eqb (readRefusal m (registerOf o)) 0) _ _ (λ _. sound-place m (registerOf o) h) (λ _. h)
 
 -- Writing ------------------------------------------------------------------------------------------------------------
 
 sound-cr0 : (m : Model) (v : ℕ) → soundRegisters m ≡ true → writeRefusal m Cr0 v ≡ 0 → soundRegisters (cr0Written m v) ≡ true
 unfolding cr0Written enabledOf
 sound-cr0 m v h r =
-    let t = sound-told m h in
+    let t = sound-elim m h in
     let d = cr0-done m v r in
     let p : permittedOf (v % 0x10000) ≡ true = rw (mod-eq-of-lt (d .small)) (d .permitted) in
     sound-tell _ (record {
@@ -242,21 +242,21 @@ sound-cr0 m v h r =
     })
 
 -- the count that a written CR1 keeps
-count-enabling : (c c′ : Control) (n : ℕ) → CountTold c n → ControlTold c′ → halfOf c′ ≡ halfOf c → enabledOf c′ ≡ true → n < 64 * halfOf c′
+count-enabling : (c c′ : Control) (n : ℕ) → CountFacts c n → ControlFacts c′ → divisorOf c′ ≡ divisorOf c → enabledOf c′ ≡ true → n < 64 * divisorOf c′ .0
 count-enabling c c′ n t u e k = go (enabledOf c) refl
   where
-    go : (x : Bool) → enabledOf c ≡ x → n < 64 * halfOf c′
+    go : (x : Bool) → enabledOf c ≡ x → n < 64 * divisorOf c′ .0
     go true y = rw e (t .running y)
-    go false y = let z = t .stopped y in let p = half-positive c′ u k in omega arith
+    go false y = let z = t .stopped y in let p = divisor-positive c′ u k in omega arith
 
 sound-cr1 : (m : Model) (v : ℕ) → soundRegisters m ≡ true → writeRefusal m Cr1 v ≡ 0 → soundRegisters (cr1Written m v) ≡ true
-unfolding cr1Written enabledOf halfOf
+unfolding cr1Written enabledOf divisorOf
 sound-cr1 m v h r =
-    let t = sound-told m h in
+    let t = sound-elim m h in
     let d = cr1-done m v r in
     let c : Control = record { cr0 = m .control .cr0; cr1 = v % 0x10; cpsr = m .control .cpsr } in
     let same : bitAt (v % 0x10) 1 ≡ bitAt v 1 = ap (λ (x : ℕ). bitAt x 1) (mod-eq-of-lt (d .small)) in
-    let u : ControlTold c = record {
+    let u : ControlFacts c = record {
       shape = t .control .shape;
       even = t .control .even;
       cr1 = let s = d .small in omega arith;
@@ -269,7 +269,7 @@ sound-cr1 m v h r =
       dmacr = t .dmacr;
       tx = t .tx;
       rx = t .rx;
-      count = pick-both (λ (x : Cycles). CountTold c (x .0)) (bitAt v 1) _ _
+      count = pick-both (λ (x : Cycles). CountFacts c (x .0)) (bitAt v 1) _ _
           (λ y. record { running = λ e. count-enabling (m .control) c (m .timeout .count .0) (t .count) u refl e; stopped = λ e. both-absurd (bitAt v 1) y (sym same ∙ e) })
           (λ _. count-zero c u);
     })
@@ -277,7 +277,7 @@ sound-cr1 m v h r =
 sound-cpsr : (m : Model) (v : ℕ) → soundRegisters m ≡ true → writeRefusal m Cpsr v ≡ 0 → soundRegisters (cpsrWritten m v) ≡ true
 unfolding cpsrWritten enabledOf
 sound-cpsr m v h r =
-    let t = sound-told m h in
+    let t = sound-elim m h in
     let d = cpsr-done m v r in
     sound-tell _ (record {
       control = record {
@@ -297,35 +297,35 @@ sound-cpsr m v h r =
 sound-icr : (m : Model) (v : ℕ) → soundRegisters m ≡ true → soundRegisters (icrWritten m v) ≡ true
 unfolding icrWritten
 sound-icr m v h =
-    let t = sound-told m h in
+    let t = sound-elim m h in
     sound-tell _ (record {
       control = t .control;
       imsc = t .imsc;
       dmacr = t .dmacr;
       tx = t .tx;
       rx = t .rx;
-      count = pick-both (λ (x : Cycles). CountTold (m .control) (x .0)) (not (bitAt v 1)) _ _ (λ _. t .count) (λ _. count-zero (m .control) (t .control));
+      count = pick-both (λ (x : Cycles). CountFacts (m .control) (x .0)) (not (bitAt v 1)) _ _ (λ _. t .count) (λ _. count-zero (m .control) (t .control));
     })
 
 sound-dr : (m : Model) (v : ℕ) → soundRegisters m ≡ true → soundRegisters (drWritten m v) ≡ true
 unfolding drWritten
 sound-dr m v h =
-    let t = sound-told m h in
+    let t = sound-elim m h in
     sound-tell _ (record { control = t .control; imsc = t .imsc; dmacr = t .dmacr; tx = added-most (m .tx) (v % 0x10000) (t .tx); rx = t .rx; count = t .count })
 
 sound-imsc : (m : Model) (v : ℕ) → soundRegisters m ≡ true → soundRegisters (imscWritten m v) ≡ true
 unfolding imscWritten
 sound-imsc m v h =
-    let t = sound-told m h in
+    let t = sound-elim m h in
     sound-tell _ (record { control = t .control; imsc = omega arith; dmacr = t .dmacr; tx = t .tx; rx = t .rx; count = t .count })
 
 sound-dmacr : (m : Model) (v : ℕ) → soundRegisters m ≡ true → soundRegisters (dmacrWritten m v) ≡ true
 unfolding dmacrWritten
 sound-dmacr m v h =
-    let t = sound-told m h in
+    let t = sound-elim m h in
     sound-tell _ (record { control = t .control; imsc = t .imsc; dmacr = omega arith; tx = t .tx; rx = t .rx; count = t .count })
 
-sound-written : (m : Model) (p : Place) (v : ℕ) → soundRegisters m ≡ true → writeRefusal m p v ≡ 0 → soundRegisters (writeDone m p v) ≡ true
+sound-written : (m : Model) (p : Register) (v : ℕ) → soundRegisters m ≡ true → writeRefusal m p v ≡ 0 → soundRegisters (writeDone m p v) ≡ true
 sound-written m Cr0 v h r = sound-cr0 m v h r
 sound-written m Cr1 v h r = sound-cr1 m v h r
 sound-written m Dr v h r = sound-dr m v h
@@ -343,21 +343,21 @@ sound-written m Outside v h r = h
 pub sound-write : (m : Model) (o v : ℕ) → soundRegisters m ≡ true → soundRegisters (writeModel m o v) ≡ true
 unfolding writeModel
 sound-write m o v h =
-    pick-both (λ (x : Model). soundRegisters x ≡ true) (eqb (writeRefusal m (placeOf o) v) 0) _ _
-    (λ e. sound-written m (placeOf o) v h (eqb-true _ _ e)) (λ _. h)
+    pick-both (λ (x : Model). soundRegisters x ≡ true) (eqb (writeRefusal m (registerOf o) v) 0) _ _
+    (λ e. sound-written m (registerOf o) v h (eqb-true _ _ e)) (λ _. h)
 
 -- What the bytes of a record can hold --------------------------------------------------------------------------------
 
-pub record FitTold (m : Model) : Type 0 where
+pub record FitFacts (m : Model) : Type 0 where
   pub cr0 : m .control .cr0 < 0x10000
   pub cpsr : m .control .cpsr < 0x100
   pub count : m .timeout .count .0 < 0x100000000
   pub tx : wordsFit (m .tx) ≡ true
   pub rx : wordsFit (m .rx) ≡ true
 
-pub fits-told : (m : Model) → registersFit m ≡ true → FitTold m
+pub fits-elim : (m : Model) → registersFit m ≡ true → FitFacts m
 unfolding registersFit
-fits-told m h =
+fits-elim m h =
     let a = and-left ((ltb (m .control .cr0) 0x10000 && ltb (m .control .cpsr) 0x100) && ltb (m .timeout .count .0) 0x100000000) _ h in
     let b = and-right ((ltb (m .control .cr0) 0x10000 && ltb (m .control .cpsr) 0x100) && ltb (m .timeout .count .0) 0x100000000) _ h in
     let c = and-left (ltb (m .control .cr0) 0x10000 && ltb (m .control .cpsr) 0x100) _ a in
@@ -369,7 +369,7 @@ fits-told m h =
       rx = and-right (wordsFit (m .tx)) _ b;
     }
 
-pub fits-tell : (m : Model) → FitTold m → registersFit m ≡ true
+pub fits-tell : (m : Model) → FitFacts m → registersFit m ≡ true
 unfolding registersFit
 fits-tell m t =
     and-both _ _ (and-both _ _ (and-both _ _ (lt-ltb _ _ (t .cr0)) (lt-ltb _ _ (t .cpsr))) (lt-ltb _ _ (t .count)))
@@ -398,44 +398,44 @@ next-fits m h = go (m .tx) h
     go [] h = omega arith
     go (x ∷ xs) h = ltb-true _ _ (and-left (ltb x 0x10000) _ h)
 
-pub fits-reset : registersFit resetModel ≡ true
+pub fits-reset : registersFit resetRegisters ≡ true
 unfolding registersFit wordsFit
 fits-reset = refl
 
-pub fits-sent : (m : Model) → registersFit m ≡ true → registersFit (sentModel m) ≡ true
-unfolding sentModel
+pub fits-sent : (m : Model) → registersFit m ≡ true → registersFit (takeWord m) ≡ true
+unfolding takeWord
 fits-sent m h =
-    let t = fits-told m h in
+    let t = fits-elim m h in
     fits-tell _ (record { cr0 = t .cr0; cpsr = t .cpsr; count = t .count; tx = rest-fits (m .tx) (t .tx); rx = t .rx })
 
-pub fits-received : (m : Model) (w : ℕ) → w < 0x10000 → registersFit m ≡ true → registersFit (receivedModel m w) ≡ true
-unfolding receivedModel
+pub fits-received : (m : Model) (w : ℕ) → w < 0x10000 → registersFit m ≡ true → registersFit (receiveWord m w) ≡ true
+unfolding receiveWord
 fits-received m w p h =
-    let t = fits-told m h in
+    let t = fits-elim m h in
     fits-tell _ (record { cr0 = t .cr0; cpsr = t .cpsr; count = t .count; tx = t .tx; rx = added-fits (m .rx) w p (t .rx) })
 
-pub fits-ended : (m : Model) (frame : Bool) → registersFit m ≡ true → registersFit (endedModel m frame) ≡ true
-unfolding endedModel timeoutOf limitOf cyclesOf
+pub fits-ended : (m : Model) (frame : Bool) → registersFit m ≡ true → registersFit (endCycle m frame) ≡ true
+unfolding endCycle timeoutOf limitOf cyclesOf
 fits-ended m frame h =
-    let t = fits-told m h in
+    let t = fits-elim m h in
     fits-tell _ (record {
       cr0 = t .cr0;
       cpsr = t .cpsr;
       count = pick-both (λ (x : Timeout). x .count .0 < 0x100000000) (idlesOf m frame) _ _
-          (λ _. pick-both (λ (x : Timeout). x .count .0 < 0x100000000) (leb (64 * halfOf (m .control)) (m .timeout .count .0 + 1)) _ _
+          (λ _. pick-both (λ (x : Timeout). x .count .0 < 0x100000000) (leb (64 * divisorOf (m .control) .0) (m .timeout .count .0 + 1)) _ _
           (λ _. omega arith)
-          (λ k. let l = leb-false (64 * halfOf (m .control)) (m .timeout .count .0 + 1) k in let p = half-most (m .control) (t .cpsr) in omega arith))
+          (λ k. let l = leb-false (64 * divisorOf (m .control) .0) (m .timeout .count .0 + 1) k in let p = divisor-most (m .control) (t .cpsr) in omega arith))
           (λ _. omega arith);
       tx = t .tx;
       rx = t .rx;
     })
 
-fits-place : (m : Model) (p : Place) → registersFit m ≡ true → registersFit (readDone m p) ≡ true
+fits-place : (m : Model) (p : Register) → registersFit m ≡ true → registersFit (readDone m p) ≡ true
 unfolding dataTaken
 fits-place m Cr0 h = h
 fits-place m Cr1 h = h
 fits-place m Dr h =
-    let t = fits-told m h in
+    let t = fits-elim m h in
     fits-tell _ (record { cr0 = t .cr0; cpsr = t .cpsr; count = omega arith; tx = t .tx; rx = rest-fits (m .rx) (t .rx) })
 fits-place m Sr h = h
 fits-place m Cpsr h = h
@@ -451,36 +451,36 @@ fits-place m Outside h = h
 pub fits-read : (m : Model) (o : ℕ) → registersFit m ≡ true → registersFit (readModel m o) ≡ true
 unfolding readModel
 fits-read m o h =
-    pick-both (λ (x : Model). registersFit x ≡ true) (eqb (readRefusal m (placeOf o)) 0) _ _ (λ _. fits-place m (placeOf o) h) (λ _. h)
+    pick-both (λ (x : Model). registersFit x ≡ true) (eqb (readRefusal m (registerOf o)) 0) _ _ (λ _. fits-place m (registerOf o) h) (λ _. h)
 
 fits-kept : (keep : Bool) (n : Cycles) → n .0 < 0x100000000 → keptCount keep n .0 < 0x100000000
 fits-kept keep n h = pick-both (λ (x : Cycles). x .0 < 0x100000000) keep _ _ (λ _. h) (λ _. omega arith)
 
-fits-written : (m : Model) (p : Place) (v : ℕ) → registersFit m ≡ true → registersFit (writeDone m p v) ≡ true
+fits-written : (m : Model) (p : Register) (v : ℕ) → registersFit m ≡ true → registersFit (writeDone m p v) ≡ true
 unfolding cr0Written cr1Written cpsrWritten icrWritten drWritten imscWritten dmacrWritten
 fits-written m Cr0 v h =
-    let t = fits-told m h in
+    let t = fits-elim m h in
     fits-tell _ (record { cr0 = omega arith; cpsr = t .cpsr; count = t .count; tx = t .tx; rx = t .rx })
 fits-written m Cr1 v h =
-    let t = fits-told m h in
+    let t = fits-elim m h in
     fits-tell _ (record { cr0 = t .cr0; cpsr = t .cpsr; count = fits-kept (bitAt v 1) (m .timeout .count) (t .count); tx = t .tx; rx = t .rx })
 fits-written m Dr v h =
-    let t = fits-told m h in
+    let t = fits-elim m h in
     fits-tell _ (record { cr0 = t .cr0; cpsr = t .cpsr; count = t .count; tx = added-fits (m .tx) (v % 0x10000) (omega arith) (t .tx); rx = t .rx })
 fits-written m Sr v h = h
 fits-written m Cpsr v h =
-    let t = fits-told m h in
+    let t = fits-elim m h in
     fits-tell _ (record { cr0 = t .cr0; cpsr = omega arith; count = t .count; tx = t .tx; rx = t .rx })
 fits-written m Imsc v h =
-    let t = fits-told m h in
+    let t = fits-elim m h in
     fits-tell _ (record { cr0 = t .cr0; cpsr = t .cpsr; count = t .count; tx = t .tx; rx = t .rx })
 fits-written m Ris v h = h
 fits-written m Mis v h = h
 fits-written m Icr v h =
-    let t = fits-told m h in
+    let t = fits-elim m h in
     fits-tell _ (record { cr0 = t .cr0; cpsr = t .cpsr; count = fits-kept (not (bitAt v 1)) (m .timeout .count) (t .count); tx = t .tx; rx = t .rx })
 fits-written m Dmacr v h =
-    let t = fits-told m h in
+    let t = fits-elim m h in
     fits-tell _ (record { cr0 = t .cr0; cpsr = t .cpsr; count = t .count; tx = t .tx; rx = t .rx })
 fits-written m (Identity i) v h = h
 fits-written m Reserved v h = h
@@ -489,4 +489,4 @@ fits-written m Outside v h = h
 pub fits-write : (m : Model) (o v : ℕ) → registersFit m ≡ true → registersFit (writeModel m o v) ≡ true
 unfolding writeModel
 fits-write m o v h =
-    pick-both (λ (x : Model). registersFit x ≡ true) (eqb (writeRefusal m (placeOf o) v) 0) _ _ (λ _. fits-written m (placeOf o) v h) (λ _. h)
+    pick-both (λ (x : Model). registersFit x ≡ true) (eqb (writeRefusal m (registerOf o) v) 0) _ _ (λ _. fits-written m (registerOf o) v h) (λ _. h)

@@ -10,12 +10,12 @@ use Rattle.registers.specs.Choose.{pick, bitAt, bitsDiffer}
 use Rattle.registers.specs.Time.{cycles}
 use Rattle.registers.specs.Refusals.{done, badOffset, reservedOffset, wrongAccess, extraBits, whileEnabled, notPermitted, queueFull, queueEmpty, firstOf, refusalOf, wordOf}
 use Rattle.registers.specs.Model.{Model, modelOf, withControl, withMasks, withTimeout, withRor, withTx, withRx}
-use Rattle.registers.specs.Offsets.{placeOf, identityOf}
+use Rattle.registers.specs.Offsets.{registerOf, identityOf}
 use Rattle.registers.specs.Settings.{enabledOf, permittedOf}
 use Rattle.registers.specs.Flags.{statusOf, rawOf, maskedOf, interruptWord}
 use Rattle.registers.specs.declared.time.Cycles.{Cycles}
-use Rattle.registers.specs.declared.offsets.Place.{Place}
-use Rattle.registers.specs.declared.offsets.Place.the-variants.{Cr0, Cr1, Dr, Sr, Cpsr, Imsc, Ris, Mis, Icr, Dmacr, Identity, Reserved, Outside}
+use Rattle.registers.specs.declared.offsets.Register.{Register}
+use Rattle.registers.specs.declared.offsets.Register.the-variants.{Cr0, Cr1, Dr, Sr, Cpsr, Imsc, Ris, Mis, Icr, Dmacr, Identity, Reserved, Outside}
 use Rattle.registers.specs.declared.access.Answer.{Answer}
 use Rattle.registers.specs.declared.access.Answer.the-variants.{Word, Refused}
 use Rattle.registers.specs.declared.access.Reading.{Reading}
@@ -24,7 +24,7 @@ use Rattle.registers.specs.declared.access.Written.{Written}
 -- Reading ------------------------------------------------------------------------------------------------------------
 
 -- 1, 2 and 3, by the place alone; 8: the data register with no word held.
-abbrev pub readRefusal : Model → Place → ℕ
+abbrev pub readRefusal : Model → Register → ℕ
 readRefusal m Cr0 = done
 readRefusal m Cr1 = done
 readRefusal m Dr = pick (eqb (length (m .rx)) 0) queueEmpty done
@@ -40,7 +40,7 @@ readRefusal m Reserved = reservedOffset
 readRefusal m Outside = badOffset
 
 -- The word of a place, 0 where a read is refused by the place; `frame` says whether a frame is in progress.
-abbrev pub readWord : Model → Bool → Place → ℕ
+abbrev pub readWord : Model → Bool → Register → ℕ
 readWord m frame Cr0 = m .control .cr0
 readWord m frame Cr1 = m .control .cr1
 readWord m frame Dr = getD (m .rx) 0 0
@@ -62,7 +62,7 @@ dataTaken m =
     (record { rt = m .timeout .rt && not (eqb (length (rest (m .rx))) 0); count = cycles 0 })
 
 -- No other read changes anything.
-abbrev pub readDone : Model → Place → Model
+abbrev pub readDone : Model → Register → Model
 readDone m Cr0 = m
 readDone m Cr1 = m
 readDone m Dr = dataTaken m
@@ -79,16 +79,16 @@ readDone m Outside = m
 
 -- A read answers with a word or with a refusal number.
 unfoldable pub readAnswer : Model → Bool → ℕ → Answer
-readAnswer m frame o = pick (eqb (readRefusal m (placeOf o)) done) (Word (readWord m frame (placeOf o))) (Refused (readRefusal m (placeOf o)))
+readAnswer m frame o = pick (eqb (readRefusal m (registerOf o)) done) (Word (readWord m frame (registerOf o))) (Refused (readRefusal m (registerOf o)))
 
 -- A refused read leaves everything as it was.
 unfoldable pub readModel : Model → ℕ → Model
-readModel m o = pick (eqb (readRefusal m (placeOf o)) done) (readDone m (placeOf o)) m
+readModel m o = pick (eqb (readRefusal m (registerOf o)) done) (readDone m (registerOf o)) m
 
-pub record ReadAs (m : Model) (frame : Bool) (o : ℕ) (r : Reading) : Type 0 where
+pub record Read (m : Model) (frame : Bool) (o : ℕ) (r : Reading) : Type 0 where
   pub answer : r .answer ≡ readAnswer m frame o
-  pub refusal : refusalOf (r .answer) ≡ readRefusal m (placeOf o)
-  pub word : wordOf (r .answer) ≡ pick (eqb (readRefusal m (placeOf o)) done) (readWord m frame (placeOf o)) 0
+  pub refusal : refusalOf (r .answer) ≡ readRefusal m (registerOf o)
+  pub word : wordOf (r .answer) ≡ pick (eqb (readRefusal m (registerOf o)) done) (readWord m frame (registerOf o)) 0
   pub model : modelOf (r .registers) ≡ readModel m o
 
 -- Writing ------------------------------------------------------------------------------------------------------------
@@ -98,7 +98,7 @@ abbrev pub bitsBeyond : ℕ → ℕ → ℕ
 bitsBeyond limit v = pick (leb limit v) extraBits done
 
 -- 1 to 4, by the place and the value alone.
-abbrev pub writeAccess : Place → ℕ → ℕ
+abbrev pub writeAccess : Register → ℕ → ℕ
 writeAccess Cr0 v = bitsBeyond 0x10000 v
 writeAccess Cr1 v = bitsBeyond 0x10 v
 writeAccess Dr v = bitsBeyond 0x10000 v
@@ -133,7 +133,7 @@ unfoldable pub drRule : Model → ℕ
 drRule m = pick (leb 8 (length (m .tx))) queueFull done
 
 -- 5 to 7, by the state; the other registers have no such rule.
-abbrev pub writeRule : Model → Place → ℕ → ℕ
+abbrev pub writeRule : Model → Register → ℕ → ℕ
 writeRule m Cr0 v = cr0Rule m v
 writeRule m Cr1 v = cr1Rule m v
 writeRule m Dr v = drRule m
@@ -148,7 +148,7 @@ writeRule m (Identity i) v = done
 writeRule m Reserved v = done
 writeRule m Outside v = done
 
-unfoldable pub writeRefusal : Model → Place → ℕ → ℕ
+unfoldable pub writeRefusal : Model → Register → ℕ → ℕ
 writeRefusal m p v = firstOf (writeAccess p v) (writeRule m p v)
 
 -- The timeout's count, kept or zero.
@@ -186,7 +186,7 @@ unfoldable pub dmacrWritten : Model → ℕ → Model
 dmacrWritten m v = withMasks m (record { imsc = m .masks .imsc; dmacr = v % 0x4 })
 
 -- What a write that is done leaves; the places without a line of their own refuse every write.
-abbrev pub writeDone : Model → Place → ℕ → Model
+abbrev pub writeDone : Model → Register → ℕ → Model
 writeDone m Cr0 v = cr0Written m v
 writeDone m Cr1 v = cr1Written m v
 writeDone m Dr v = drWritten m v
@@ -203,8 +203,8 @@ writeDone m Outside v = m
 
 -- A refused write leaves everything as it was.
 unfoldable pub writeModel : Model → ℕ → ℕ → Model
-writeModel m o v = pick (eqb (writeRefusal m (placeOf o) v) done) (writeDone m (placeOf o) v) m
+writeModel m o v = pick (eqb (writeRefusal m (registerOf o) v) done) (writeDone m (registerOf o) v) m
 
-pub record WrittenAs (m : Model) (o v : ℕ) (r : Written) : Type 0 where
-  pub refusal : r .refusal ≡ writeRefusal m (placeOf o) v
+pub record Write (m : Model) (o v : ℕ) (r : Written) : Type 0 where
+  pub refusal : r .refusal ≡ writeRefusal m (registerOf o) v
   pub model : modelOf (r .registers) ≡ writeModel m o v

@@ -23,8 +23,8 @@ fieldsOf m =
     }
 
 -- A queue holds the first words of its places, as many as its count says.
-unfoldable pub modelFrom : Fields → Model
-modelFrom f =
+unfoldable pub restored : Fields → Model
+restored f =
     record {
       control = f .control;
       masks = f .masks;

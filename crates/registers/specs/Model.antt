@@ -29,8 +29,8 @@ pub modelOf : Registers → Model
 modelOf r = record { control = r .control; masks = r .masks; timeout = r .timeout; ror = r .ror; tx = contents (r .tx); rx = contents (r .rx) }
 
 -- Reset: all zero, queues empty.
-abbrev pub resetModel : Model
-resetModel =
+abbrev pub resetRegisters : Model
+resetRegisters =
     record {
       control = record { cr0 = 0; cr1 = 0; cpsr = 0 };
       masks = record { imsc = 0; dmacr = 0 };

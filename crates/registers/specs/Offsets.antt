@@ -4,12 +4,12 @@ use mathlib.Core.List.{List, [], _∷_}
 use lib.ListN.{getD}
 use lib.Dec.{ltb, eqb}
 use Rattle.registers.specs.Choose.{pick}
-use Rattle.registers.specs.declared.offsets.Place.{Place}
-use Rattle.registers.specs.declared.offsets.Place.the-variants.{Cr0, Cr1, Dr, Sr, Cpsr, Imsc, Ris, Mis, Icr, Dmacr, Identity, Reserved, Outside}
+use Rattle.registers.specs.declared.offsets.Register.{Register}
+use Rattle.registers.specs.declared.offsets.Register.the-variants.{Cr0, Cr1, Dr, Sr, Cpsr, Imsc, Ris, Mis, Icr, Dmacr, Identity, Reserved, Outside}
 
 -- The table of offsets. All others below 0x1000 are reserved; what is no multiple of 4, or lies beyond, is outside.
-unfoldable pub placeOf : ℕ → Place
-placeOf o =
+unfoldable pub registerOf : ℕ → Register
+registerOf o =
     pick (eqb (o % 4) 0)
     (pick (eqb o 0x00) Cr0
     (pick (eqb o 0x04) Cr1

@@ -4,6 +4,9 @@ use mathlib.Core.Path.{_≡_}
 use mathlib.Core.Bool.{Bool, _&&_}
 use lib.Dec.{ltb, leb, eqb}
 use Rattle.registers.specs.Choose.{pick, bitAt}
+use Rattle.registers.specs.Time.{divisor}
+use Rattle.registers.specs.Model.{Model}
+use Rattle.registers.specs.declared.time.Divisor.{Divisor}
 use Rattle.registers.specs.declared.Control.{Control}
 use Rattle.registers.specs.declared.settings.Format.{Format}
 use Rattle.registers.specs.declared.settings.Format.the-variants.{Motorola, Ti, Microwire, Reserved}
@@ -26,17 +29,21 @@ unfoldable pub bitsOf : ℕ → ℕ
 bitsOf cr0 = cr0 % 16 + 1
 
 -- h, the cycles of a slot: (CPSR / 2) × (1 + SCR), SCR being CR0's bits 15:8.
-unfoldable pub halfOf : Control → ℕ
-halfOf c = (c .cpsr / 2) * (1 + c .cr0 / 256 % 256)
+unfoldable pub divisorOf : Control → Divisor
+divisorOf c = divisor ((c .cpsr / 2) * (1 + c .cr0 / 256 % 256))
 
 -- It is at most 127 × 256.
-pub record HalfOf (c : Control) (r : ℕ) : Type 0 where
-  pub half : r ≡ halfOf c
-  pub most : r ≤ 32512
+pub record DivisorOf (c : Control) (r : Divisor) : Type 0 where
+  pub divisor : r ≡ divisorOf c
+  pub most : r .0 ≤ 32512
 
 -- SSE, CR1's bit 1: the port is enabled.
 unfoldable pub enabledOf : Control → Bool
 enabledOf c = bitAt (c .cr1) 1
+
+-- The same of a register file.
+abbrev pub enabled : Model → Bool
+enabled m = enabledOf (m .control)
 
 -- All that the engine goes by: SPH is CR0's bit 7 and SPO its bit 6, MS CR1's bit 2, SOD its bit 3, LBM its bit 0.
 unfoldable pub settingsOf : Control → Settings
@@ -46,9 +53,9 @@ settingsOf c =
       phase = bitAt (c .cr0) 7;
       polarity = bitAt (c .cr0) 6;
       bits = bitsOf (c .cr0);
-      half = halfOf c;
+      divisor = divisorOf c;
       slave = bitAt (c .cr1) 2;
-      silent = bitAt (c .cr1) 3;
+      sod = bitAt (c .cr1) 3;
       loopback = bitAt (c .cr1) 0;
       enabled = enabledOf c;
     }

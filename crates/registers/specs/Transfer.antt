@@ -9,7 +9,7 @@ pub use Rattle.queue.specs.Fifo.{rest}
 use Rattle.registers.specs.Choose.{pick}
 use Rattle.registers.specs.Time.{cycles, slots, cyclesOf}
 use Rattle.registers.specs.Model.{Model, withTimeout, withRor, withTx, withRx}
-use Rattle.registers.specs.Settings.{enabledOf, halfOf}
+use Rattle.registers.specs.Settings.{enabledOf, divisorOf}
 use Rattle.registers.specs.declared.Timeout.{Timeout}
 use Rattle.registers.specs.declared.time.Cycles.{Cycles}
 
@@ -22,12 +22,12 @@ unfoldable pub nextWord : Model → ℕ
 nextWord m = getD (m .tx) 0 0
 
 -- It is taken out of the queue.
-unfoldable pub sentModel : Model → Model
-sentModel m = withTx m (rest (m .tx))
+unfoldable pub takeWord : Model → Model
+takeWord m = withTx m (rest (m .tx))
 
 -- A completed word enters the receive queue. With eight held it is dropped, the eight stay, and ROR is set.
-unfoldable pub receivedModel : Model → ℕ → Model
-receivedModel m w = withRor (withRx m (added (m .rx) w)) (m .ror || not (ltb (length (m .rx)) 8))
+unfoldable pub receiveWord : Model → ℕ → Model
+receiveWord m w = withRor (withRx m (added (m .rx) w)) (m .ror || not (ltb (length (m .rx)) 8))
 
 -- The cycle counts for the timeout: words held, SSE set, no frame in progress at its end.
 unfoldable pub idlesOf : Model → Bool → Bool
@@ -35,7 +35,7 @@ idlesOf m frame = (not (eqb (length (m .rx)) 0) && enabledOf (m .control)) && no
 
 -- RT is set after 32 bit times, 64 slots.
 unfoldable pub limitOf : Model → Cycles
-limitOf m = cyclesOf (slots 64) (halfOf (m .control))
+limitOf m = cyclesOf (slots 64) (divisorOf (m .control))
 
 pub record LimitOf (m : Model) (r : Cycles) : Type 0 where
   pub limit : r ≡ limitOf m
@@ -50,5 +50,5 @@ timeoutOf m frame =
     (record { rt = m .timeout .rt; count = cycles (m .timeout .count .0 + 1) }))
     (record { rt = m .timeout .rt; count = cycles 0 })
 
-unfoldable pub endedModel : Model → Bool → Model
-endedModel m frame = withTimeout m (timeoutOf m frame)
+unfoldable pub endCycle : Model → Bool → Model
+endCycle m frame = withTimeout m (timeoutOf m frame)

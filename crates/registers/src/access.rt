@@ -2,12 +2,12 @@
 ghost use mathlib.Core.Path.{_≡_};
 ghost use mathlib.Core.Bool.{Bool};
 ghost use Rattle.registers.specs.Model.{modelOf};
-ghost use Rattle.registers.specs.Access.{readRefusal, readWord, readDone, dataTaken, ReadAs, bitsBeyond, writeAccess, cr0Rule, cr1Rule, cpsrRule, drRule, writeRule, writeRefusal, keptCount, cr0Written, cr1Written, cpsrWritten, icrWritten, drWritten, imscWritten, dmacrWritten, writeDone, WrittenAs};
+ghost use Rattle.registers.specs.Access.{readRefusal, readWord, readDone, dataTaken, Read, bitsBeyond, writeAccess, cr0Rule, cr1Rule, cpsrRule, drRule, writeRule, writeRefusal, keptCount, cr0Written, cr1Written, cpsrWritten, icrWritten, drWritten, imscWritten, dmacrWritten, writeDone, Write};
 use crate::Control;
 use crate::Masks;
 use crate::Registers;
 use crate::Timeout;
-use crate::offsets::Place;
+use crate::offsets::Register;
 use crate::time::Cycles;
 
 // Refusal numbers, in the order in which they are checked.
@@ -47,46 +47,46 @@ pub struct Written {
 
 // Reading ------------------------------------------------------------------------------------------------------------
 
-fn read_refusal(r: Registers, place: Place) -> u8
-    ensures { λ n. ⌜ n ≡ readRefusal (modelOf r) place ⌝ }
+fn read_refusal(r: Registers, register: Register) -> u8
+    ensures { λ n. ⌜ n ≡ readRefusal (modelOf r) register ⌝ }
 {
-    match place {
-        Place::Cr0 => DONE,
-        Place::Cr1 => DONE,
-        Place::Dr => {
+    match register {
+        Register::Cr0 => DONE,
+        Register::Cr1 => DONE,
+        Register::Dr => {
             let held = queue::count(r.rx);
             if held == 0 { QUEUE_EMPTY } else { DONE }
         }
-        Place::Sr => DONE,
-        Place::Cpsr => DONE,
-        Place::Imsc => DONE,
-        Place::Ris => DONE,
-        Place::Mis => DONE,
-        Place::Icr => WRONG_ACCESS,
-        Place::Dmacr => DONE,
-        Place::Identity(_) => DONE,
-        Place::Reserved => RESERVED_OFFSET,
-        Place::Outside => BAD_OFFSET,
+        Register::Sr => DONE,
+        Register::Cpsr => DONE,
+        Register::Imsc => DONE,
+        Register::Ris => DONE,
+        Register::Mis => DONE,
+        Register::Icr => WRONG_ACCESS,
+        Register::Dmacr => DONE,
+        Register::Identity(_) => DONE,
+        Register::Reserved => RESERVED_OFFSET,
+        Register::Outside => BAD_OFFSET,
     }
 }
 
-fn read_word(r: Registers, frame: bool, place: Place) -> u16
-    ensures { λ w. ⌜ w ≡ readWord (modelOf r) frame place ⌝ }
+fn read_word(r: Registers, frame: bool, register: Register) -> u16
+    ensures { λ w. ⌜ w ≡ readWord (modelOf r) frame register ⌝ }
 {
-    match place {
-        Place::Cr0 => r.control.cr0,
-        Place::Cr1 => r.control.cr1 as u16,
-        Place::Dr => queue::word_at(r.rx, 0),
-        Place::Sr => crate::flags::status(r, frame),
-        Place::Cpsr => r.control.cpsr as u16,
-        Place::Imsc => r.masks.imsc as u16,
-        Place::Ris => crate::flags::interrupt_word(crate::flags::raw(r)),
-        Place::Mis => crate::flags::interrupt_word(crate::flags::masked(r)),
-        Place::Icr => 0,
-        Place::Dmacr => r.masks.dmacr as u16,
-        Place::Identity(i) => crate::offsets::identity(i) as u16,
-        Place::Reserved => 0,
-        Place::Outside => 0,
+    match register {
+        Register::Cr0 => r.control.cr0,
+        Register::Cr1 => r.control.cr1 as u16,
+        Register::Dr => queue::word_at(r.rx, 0),
+        Register::Sr => crate::flags::status_of(r, frame),
+        Register::Cpsr => r.control.cpsr as u16,
+        Register::Imsc => r.masks.imsc as u16,
+        Register::Ris => crate::flags::interrupt_word(crate::flags::raw_of(r)),
+        Register::Mis => crate::flags::interrupt_word(crate::flags::masked_of(r)),
+        Register::Icr => 0,
+        Register::Dmacr => r.masks.dmacr as u16,
+        Register::Identity(i) => crate::offsets::identity_of(i) as u16,
+        Register::Reserved => 0,
+        Register::Outside => 0,
     }
 }
 
@@ -107,40 +107,40 @@ fn data_taken(r: Registers) -> Registers
     next
 }
 
-fn read_done(r: Registers, place: Place) -> Registers
-    ensures { λ n. ⌜ modelOf n ≡ readDone (modelOf r) place ⌝ }
+fn read_done(r: Registers, register: Register) -> Registers
+    ensures { λ n. ⌜ modelOf n ≡ readDone (modelOf r) register ⌝ }
 {
-    match place {
-        Place::Cr0 => r,
-        Place::Cr1 => r,
-        Place::Dr => data_taken(r),
-        Place::Sr => r,
-        Place::Cpsr => r,
-        Place::Imsc => r,
-        Place::Ris => r,
-        Place::Mis => r,
-        Place::Icr => r,
-        Place::Dmacr => r,
-        Place::Identity(_) => r,
-        Place::Reserved => r,
-        Place::Outside => r,
+    match register {
+        Register::Cr0 => r,
+        Register::Cr1 => r,
+        Register::Dr => data_taken(r),
+        Register::Sr => r,
+        Register::Cpsr => r,
+        Register::Imsc => r,
+        Register::Ris => r,
+        Register::Mis => r,
+        Register::Icr => r,
+        Register::Dmacr => r,
+        Register::Identity(_) => r,
+        Register::Reserved => r,
+        Register::Outside => r,
     }
 }
 
 // A register read; `frame` says whether a frame is in progress.
 pub fn read(r: Registers, offset: u32, frame: bool) -> Reading
-    ensures { λ o. ⌜ ReadAs (modelOf r) frame offset o ⌝ }
+    ensures { λ o. ⌜ Read (modelOf r) frame offset o ⌝ }
 {
-    let place = crate::offsets::place_of(offset);
-    let refusal = read_refusal(r, place);
+    let register = crate::offsets::register_of(offset);
+    let refusal = read_refusal(r, register);
     if refusal != DONE {
         return Reading {
             answer: Answer::Refused(refusal),
             registers: r,
         };
     }
-    let word = read_word(r, frame, place);
-    let next = read_done(r, place);
+    let word = read_word(r, frame, register);
+    let next = read_done(r, register);
     Reading {
         answer: Answer::Word(word),
         registers: next,
@@ -156,23 +156,23 @@ fn bits_beyond(limit: u32, value: u32) -> u8
     if beyond { EXTRA_BITS } else { DONE }
 }
 
-fn write_access(place: Place, value: u32) -> u8
-    ensures { λ n. ⌜ n ≡ writeAccess place value ⌝ }
+fn write_access(register: Register, value: u32) -> u8
+    ensures { λ n. ⌜ n ≡ writeAccess register value ⌝ }
 {
-    match place {
-        Place::Cr0 => bits_beyond(0x10000, value),
-        Place::Cr1 => bits_beyond(0x10, value),
-        Place::Dr => bits_beyond(0x10000, value),
-        Place::Sr => WRONG_ACCESS,
-        Place::Cpsr => bits_beyond(0x100, value),
-        Place::Imsc => bits_beyond(0x10, value),
-        Place::Ris => WRONG_ACCESS,
-        Place::Mis => WRONG_ACCESS,
-        Place::Icr => bits_beyond(0x4, value),
-        Place::Dmacr => bits_beyond(0x4, value),
-        Place::Identity(_) => WRONG_ACCESS,
-        Place::Reserved => RESERVED_OFFSET,
-        Place::Outside => BAD_OFFSET,
+    match register {
+        Register::Cr0 => bits_beyond(0x10000, value),
+        Register::Cr1 => bits_beyond(0x10, value),
+        Register::Dr => bits_beyond(0x10000, value),
+        Register::Sr => WRONG_ACCESS,
+        Register::Cpsr => bits_beyond(0x100, value),
+        Register::Imsc => bits_beyond(0x10, value),
+        Register::Ris => WRONG_ACCESS,
+        Register::Mis => WRONG_ACCESS,
+        Register::Icr => bits_beyond(0x4, value),
+        Register::Dmacr => bits_beyond(0x4, value),
+        Register::Identity(_) => WRONG_ACCESS,
+        Register::Reserved => RESERVED_OFFSET,
+        Register::Outside => BAD_OFFSET,
     }
 }
 
@@ -183,7 +183,7 @@ fn cr0_rule(r: Registers, value: u32) -> u8
     if on {
         return WHILE_ENABLED;
     }
-    let good = crate::settings::permitted(value);
+    let good = crate::settings::permitted_of(value);
     if good { DONE } else { NOT_PERMITTED }
 }
 
@@ -193,7 +193,7 @@ fn cr1_rule(r: Registers, value: u32) -> u8
     let on = crate::settings::enabled(r);
     let old = r.control.cr1 as u32;
     let held = on & ((old / 4 % 2 != value / 4 % 2) | (old / 1 % 2 != value / 1 % 2));
-    let good = crate::settings::permitted(r.control.cr0 as u32);
+    let good = crate::settings::permitted_of(r.control.cr0 as u32);
     let unready = (value / 2 % 2 == 1) & (!good | (r.control.cpsr == 0));
     if held {
         return WHILE_ENABLED;
@@ -216,33 +216,33 @@ fn dr_rule(r: Registers) -> u8
     if full { QUEUE_FULL } else { DONE }
 }
 
-fn write_rule(r: Registers, place: Place, value: u32) -> u8
-    ensures { λ n. ⌜ n ≡ writeRule (modelOf r) place value ⌝ }
+fn write_rule(r: Registers, register: Register, value: u32) -> u8
+    ensures { λ n. ⌜ n ≡ writeRule (modelOf r) register value ⌝ }
 {
-    match place {
-        Place::Cr0 => cr0_rule(r, value),
-        Place::Cr1 => cr1_rule(r, value),
-        Place::Dr => dr_rule(r),
-        Place::Sr => DONE,
-        Place::Cpsr => cpsr_rule(r),
-        Place::Imsc => DONE,
-        Place::Ris => DONE,
-        Place::Mis => DONE,
-        Place::Icr => DONE,
-        Place::Dmacr => DONE,
-        Place::Identity(_) => DONE,
-        Place::Reserved => DONE,
-        Place::Outside => DONE,
+    match register {
+        Register::Cr0 => cr0_rule(r, value),
+        Register::Cr1 => cr1_rule(r, value),
+        Register::Dr => dr_rule(r),
+        Register::Sr => DONE,
+        Register::Cpsr => cpsr_rule(r),
+        Register::Imsc => DONE,
+        Register::Ris => DONE,
+        Register::Mis => DONE,
+        Register::Icr => DONE,
+        Register::Dmacr => DONE,
+        Register::Identity(_) => DONE,
+        Register::Reserved => DONE,
+        Register::Outside => DONE,
     }
 }
 
-fn write_refusal(r: Registers, place: Place, value: u32) -> u8
-    ensures { λ n. ⌜ n ≡ writeRefusal (modelOf r) place value ⌝ }
+fn write_refusal(r: Registers, register: Register, value: u32) -> u8
+    ensures { λ n. ⌜ n ≡ writeRefusal (modelOf r) register value ⌝ }
 {
-    let first = write_access(place, value);
+    let first = write_access(register, value);
     let passed = first == DONE;
     if passed {
-        return write_rule(r, place, value);
+        return write_rule(r, register, value);
     }
     first
 }
@@ -351,39 +351,39 @@ fn dmacr_written(r: Registers, value: u32) -> Registers
     next
 }
 
-fn write_done(r: Registers, place: Place, value: u32) -> Registers
-    ensures { λ n. ⌜ modelOf n ≡ writeDone (modelOf r) place value ⌝ }
+fn write_done(r: Registers, register: Register, value: u32) -> Registers
+    ensures { λ n. ⌜ modelOf n ≡ writeDone (modelOf r) register value ⌝ }
 {
-    match place {
-        Place::Cr0 => cr0_written(r, value),
-        Place::Cr1 => cr1_written(r, value),
-        Place::Dr => dr_written(r, value),
-        Place::Sr => r,
-        Place::Cpsr => cpsr_written(r, value),
-        Place::Imsc => imsc_written(r, value),
-        Place::Ris => r,
-        Place::Mis => r,
-        Place::Icr => icr_written(r, value),
-        Place::Dmacr => dmacr_written(r, value),
-        Place::Identity(_) => r,
-        Place::Reserved => r,
-        Place::Outside => r,
+    match register {
+        Register::Cr0 => cr0_written(r, value),
+        Register::Cr1 => cr1_written(r, value),
+        Register::Dr => dr_written(r, value),
+        Register::Sr => r,
+        Register::Cpsr => cpsr_written(r, value),
+        Register::Imsc => imsc_written(r, value),
+        Register::Ris => r,
+        Register::Mis => r,
+        Register::Icr => icr_written(r, value),
+        Register::Dmacr => dmacr_written(r, value),
+        Register::Identity(_) => r,
+        Register::Reserved => r,
+        Register::Outside => r,
     }
 }
 
 // A register write.
 pub fn write(r: Registers, offset: u32, value: u32) -> Written
-    ensures { λ o. ⌜ WrittenAs (modelOf r) offset value o ⌝ }
+    ensures { λ o. ⌜ Write (modelOf r) offset value o ⌝ }
 {
-    let place = crate::offsets::place_of(offset);
-    let refusal = write_refusal(r, place, value);
+    let register = crate::offsets::register_of(offset);
+    let refusal = write_refusal(r, register, value);
     if refusal != DONE {
         return Written {
             refusal,
             registers: r,
         };
     }
-    let next = write_done(r, place, value);
+    let next = write_done(r, register, value);
     Written {
         refusal: DONE,
         registers: next,

@@ -3,7 +3,7 @@ ghost use mathlib.Core.Path.{_≡_};
 ghost use lib.ListN.{length};
 ghost use Rattle.queue.specs.Fifo.{contents};
 ghost use Rattle.registers.specs.Model.{modelOf};
-ghost use Rattle.registers.specs.Fields.{places, fieldsOf, modelFrom};
+ghost use Rattle.registers.specs.Fields.{places, fieldsOf, restored};
 use crate::Control;
 use crate::Masks;
 use crate::Registers;
@@ -70,7 +70,7 @@ pub fn fields_of(r: Registers) -> Fields
 
 // The register file of such fields; a count above eight acts as eight.
 pub fn restored(f: Fields) -> Registers
-    ensures { λ r. ⌜ modelOf r ≡ modelFrom f ⌝ }
+    ensures { λ r. ⌜ modelOf r ≡ restored f ⌝ }
 {
     let control = f.control;
     let masks = f.masks;

@@ -20,7 +20,7 @@ fn value_of(flag: bool, weight: u16) -> u16
 }
 
 // BSY: a frame is in progress, or words wait to be sent.
-pub fn busy(r: Registers, frame: bool) -> bool
+pub fn busy_of(r: Registers, frame: bool) -> bool
     ensures { λ b. ⌜ b ≡ busyOf (modelOf r) frame ⌝ }
 {
     let n = queue::count(r.tx);
@@ -28,12 +28,12 @@ pub fn busy(r: Registers, frame: bool) -> bool
 }
 
 // SR.
-pub fn status(r: Registers, frame: bool) -> u16
+pub fn status_of(r: Registers, frame: bool) -> u16
     ensures { λ s. ⌜ s ≡ statusOf (modelOf r) frame ⌝ }
 {
     let t = queue::count(r.tx);
     let n = queue::count(r.rx);
-    let b = busy(r, frame);
+    let b = busy_of(r, frame);
     value_of(b, 16)
         + value_of(8 <= n, 8)
         + value_of(n != 0, 4)
@@ -42,7 +42,7 @@ pub fn status(r: Registers, frame: bool) -> u16
 }
 
 // The interrupts before masking.
-pub fn raw(r: Registers) -> Interrupts
+pub fn raw_of(r: Registers) -> Interrupts
     ensures { λ i. ⌜ i ≡ rawOf (modelOf r) ⌝ }
 {
     let t = queue::count(r.tx);
@@ -56,10 +56,10 @@ pub fn raw(r: Registers) -> Interrupts
 }
 
 // The interrupts that IMSC lets through.
-pub fn masked(r: Registers) -> Interrupts
+pub fn masked_of(r: Registers) -> Interrupts
     ensures { λ i. ⌜ i ≡ maskedOf (modelOf r) ⌝ }
 {
-    let i = raw(r);
+    let i = raw_of(r);
     let m = r.masks.imsc;
     Interrupts {
         tx: i.tx & (m / 8 % 2 == 1),

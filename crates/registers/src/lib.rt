@@ -1,7 +1,7 @@
 // The register file of the PL022 over its two queues of eight words.
 // Every function takes any value of its parameters; its promise is over the model of specs/Model.antt.
 ghost use mathlib.Core.Path.{_≡_};
-ghost use Rattle.registers.specs.Model.{modelOf, resetModel};
+ghost use Rattle.registers.specs.Model.{modelOf, resetRegisters};
 
 pub mod access;
 pub mod fields;
@@ -45,8 +45,8 @@ pub struct Registers {
 }
 
 // All zero, queues empty.
-pub fn reset() -> Registers
-    ensures { λ r. ⌜ modelOf r ≡ resetModel ⌝ }
+pub fn reset_registers() -> Registers
+    ensures { λ r. ⌜ modelOf r ≡ resetRegisters ⌝ }
 {
     Registers {
         control: Control {

@@ -1,8 +1,8 @@
 // Which register an offset names.
 ghost use mathlib.Core.Path.{_≡_};
-ghost use Rattle.registers.specs.Offsets.{placeOf, identityOf};
+ghost use Rattle.registers.specs.Offsets.{registerOf, identityOf};
 
-pub enum Place {
+pub enum Register {
     Cr0,
     Cr1,
     Dr,
@@ -24,32 +24,32 @@ pub enum Place {
 // What the identity registers hold.
 const IDENTITY: [u8; 8] = [0x22, 0x10, 0x34, 0x00, 0x0D, 0xF0, 0x05, 0xB1];
 
-pub fn place_of(offset: u32) -> Place
-    ensures { λ r. ⌜ r ≡ placeOf offset ⌝ }
+pub fn register_of(offset: u32) -> Register
+    ensures { λ r. ⌜ r ≡ registerOf offset ⌝ }
 {
     if offset % 4 != 0 {
-        return Place::Outside;
+        return Register::Outside;
     }
     match offset {
-        0x00 => Place::Cr0,
-        0x04 => Place::Cr1,
-        0x08 => Place::Dr,
-        0x0C => Place::Sr,
-        0x10 => Place::Cpsr,
-        0x14 => Place::Imsc,
-        0x18 => Place::Ris,
-        0x1C => Place::Mis,
-        0x20 => Place::Icr,
-        0x24 => Place::Dmacr,
-        0x28..=0xFDC => Place::Reserved,
-        0xFE0..=0xFFC => Place::Identity(((offset - 0xFE0) / 4) as usize),
-        _ => Place::Outside,
+        0x00 => Register::Cr0,
+        0x04 => Register::Cr1,
+        0x08 => Register::Dr,
+        0x0C => Register::Sr,
+        0x10 => Register::Cpsr,
+        0x14 => Register::Imsc,
+        0x18 => Register::Ris,
+        0x1C => Register::Mis,
+        0x20 => Register::Icr,
+        0x24 => Register::Dmacr,
+        0x28..=0xFDC => Register::Reserved,
+        0xFE0..=0xFFC => Register::Identity(((offset - 0xFE0) / 4) as usize),
+        _ => Register::Outside,
     }
 }
 
-// The identity register at a place; 0 past the eighth.
-pub fn identity(place: usize) -> u8
-    ensures { λ r. ⌜ r ≡ identityOf place ⌝ }
+// The identity register by its index; 0 past the eighth.
+pub fn identity_of(index: usize) -> u8
+    ensures { λ r. ⌜ r ≡ identityOf index ⌝ }
 {
-    if place < 8 { IDENTITY[place] } else { 0 }
+    if index < 8 { IDENTITY[index] } else { 0 }
 }

@@ -1,9 +1,10 @@
 // What CR0, CR1 and CPSR mean.
 ghost use mathlib.Core.Path.{_≡_};
 ghost use Rattle.registers.specs.Model.{modelOf};
-ghost use Rattle.registers.specs.Settings.{formatOf, permittedOf, HalfOf, settingsOf, enabledOf};
+ghost use Rattle.registers.specs.Settings.{formatOf, permittedOf, DivisorOf, settingsOf, enabledOf, enabled};
 use crate::Control;
 use crate::Registers;
+use crate::time::Divisor;
 
 // The frame format.
 pub enum Format {
@@ -23,11 +24,11 @@ pub struct Settings {
     // b, the bits of a word
     pub bits: u8,
     // h, the cycles of a slot, half a bit
-    pub half: u16,
+    pub divisor: Divisor,
     // MS
     pub slave: bool,
     // SOD: a slave that does not drive its output
-    pub silent: bool,
+    pub sod: bool,
     // LBM
     pub loopback: bool,
     // SSE
@@ -47,16 +48,16 @@ fn format_of(cr0: u16) -> Format
 }
 
 // Whether the low 16 bits are a permitted CR0: a format below 3, at least four bits.
-pub fn permitted(cr0: u32) -> bool
+pub fn permitted_of(cr0: u32) -> bool
     ensures { λ r. ⌜ r ≡ permittedOf cr0 ⌝ }
 {
     (cr0 / 16 % 4 < 3) & (3 <= cr0 % 16)
 }
 
-pub(crate) fn half_of(c: Control) -> u16
-    ensures { λ r. ⌜ HalfOf c r ⌝ }
+pub(crate) fn divisor_of(c: Control) -> Divisor
+    ensures { λ r. ⌜ DivisorOf c r ⌝ }
 {
-    ((c.cpsr / 2) as u16) * (1 + c.cr0 / 256 % 256)
+    Divisor(((c.cpsr / 2) as u16) * (1 + c.cr0 / 256 % 256))
 }
 
 pub(crate) fn enabled_of(c: Control) -> bool
@@ -67,7 +68,7 @@ pub(crate) fn enabled_of(c: Control) -> bool
 
 // SSE.
 pub fn enabled(r: Registers) -> bool
-    ensures { λ e. ⌜ e ≡ enabledOf (modelOf r .control) ⌝ }
+    ensures { λ e. ⌜ e ≡ enabled (modelOf r) ⌝ }
 {
     let c = r.control;
     enabled_of(c)
@@ -79,16 +80,16 @@ pub fn settings_of(r: Registers) -> Settings
 {
     let c = r.control;
     let format = format_of(c.cr0);
-    let half = half_of(c);
+    let divisor = divisor_of(c);
     let on = enabled_of(c);
     Settings {
         format,
         phase: c.cr0 / 128 % 2 == 1,
         polarity: c.cr0 / 64 % 2 == 1,
         bits: (c.cr0 % 16) as u8 + 1,
-        half,
+        divisor,
         slave: c.cr1 / 4 % 2 == 1,
-        silent: c.cr1 / 8 % 2 == 1,
+        sod: c.cr1 / 8 % 2 == 1,
         loopback: c.cr1 / 1 % 2 == 1,
         enabled: on,
     }

@@ -10,7 +10,7 @@ use crate::Registers;
 fn control_sound(c: Control) -> bool
     ensures { λ s. ⌜ s ≡ controlSound c ⌝ }
 {
-    let permitted = crate::settings::permitted(c.cr0 as u32);
+    let permitted = crate::settings::permitted_of(c.cr0 as u32);
     let on = crate::settings::enabled_of(c);
     (((c.cr0 == 0) | permitted) & (c.cpsr % 2 == 0))
         & ((c.cr1 <= 15) & (!on | (permitted & (c.cpsr != 0))))
@@ -38,7 +38,7 @@ fn count_sound(r: Registers) -> bool
 {
     let on = crate::settings::enabled(r);
     let n = r.timeout.count.0;
-    let most = crate::transfer::limit(r).0;
+    let most = crate::transfer::limit_of(r).0;
     if on {
         return n < most;
     }

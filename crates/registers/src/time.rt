@@ -8,9 +8,12 @@ pub struct Cycles(pub u32);
 // A length in slots: two slots are a bit.
 pub struct Slots(pub u16);
 
-// The one way from slots to cycles, with h, the cycles of a slot.
-pub fn cycles_of(slots: Slots, half: u16) -> Cycles
-    ensures { λ r. ⌜ r ≡ cyclesOf slots half ⌝ }
+// h, the cycles of a slot.
+pub struct Divisor(pub u16);
+
+// The one way from slots to cycles.
+pub fn cycles_of(slots: Slots, divisor: Divisor) -> Cycles
+    ensures { λ r. ⌜ r ≡ cyclesOf slots divisor ⌝ }
 {
-    Cycles((slots.0 as u32) * (half as u32))
+    Cycles((slots.0 as u32) * (divisor.0 as u32))
 }

@@ -1,7 +1,7 @@
 // What the serial engine needs of the register file.
 ghost use mathlib.Core.Path.{_≡_};
 ghost use Rattle.registers.specs.Model.{modelOf};
-ghost use Rattle.registers.specs.Transfer.{waitingOf, nextWord, sentModel, receivedModel, idlesOf, LimitOf, timeoutOf, endedModel};
+ghost use Rattle.registers.specs.Transfer.{waitingOf, nextWord, takeWord, receiveWord, idlesOf, LimitOf, timeoutOf, endCycle};
 use crate::Registers;
 use crate::Timeout;
 use crate::time::Cycles;
@@ -11,7 +11,7 @@ use crate::time::Slots;
 const TIMEOUT: Slots = Slots(64);
 
 // Whether a word waits to be sent.
-pub fn waiting(r: Registers) -> bool
+pub fn waiting_of(r: Registers) -> bool
     ensures { λ w. ⌜ w ≡ waitingOf (modelOf r) ⌝ }
 {
     let on = crate::settings::enabled(r);
@@ -27,8 +27,8 @@ pub fn next_word(r: Registers) -> u16
 }
 
 // The register file without the oldest word to send.
-pub fn word_taken(r: Registers) -> Registers
-    ensures { λ n. ⌜ modelOf n ≡ sentModel (modelOf r) ⌝ }
+pub fn take_word(r: Registers) -> Registers
+    ensures { λ n. ⌜ modelOf n ≡ takeWord (modelOf r) ⌝ }
 {
     let out = queue::take_oldest(r.tx);
     let tx = out.queue;
@@ -38,8 +38,8 @@ pub fn word_taken(r: Registers) -> Registers
 }
 
 // A completed word: kept, or lost with the overrun flag set.
-pub fn receive(r: Registers, word: u16) -> Registers
-    ensures { λ n. ⌜ modelOf n ≡ receivedModel (modelOf r) word ⌝ }
+pub fn receive_word(r: Registers, word: u16) -> Registers
+    ensures { λ n. ⌜ modelOf n ≡ receiveWord (modelOf r) word ⌝ }
 {
     let added = queue::add(r.rx, word);
     let rx = added.queue;
@@ -50,7 +50,7 @@ pub fn receive(r: Registers, word: u16) -> Registers
     next
 }
 
-fn idles(r: Registers, frame: bool) -> bool
+fn idles_of(r: Registers, frame: bool) -> bool
     ensures { λ i. ⌜ i ≡ idlesOf (modelOf r) frame ⌝ }
 {
     let n = queue::count(r.rx);
@@ -59,21 +59,21 @@ fn idles(r: Registers, frame: bool) -> bool
 }
 
 // The cycles after which RT is set.
-pub(crate) fn limit(r: Registers) -> Cycles
+pub(crate) fn limit_of(r: Registers) -> Cycles
     ensures { λ n. ⌜ LimitOf (modelOf r) n ⌝ }
 {
     let c = r.control;
-    let h = crate::settings::half_of(c);
+    let h = crate::settings::divisor_of(c);
     crate::time::cycles_of(TIMEOUT, h)
 }
 
 fn timeout_of(r: Registers, frame: bool) -> Timeout
     ensures { λ t. ⌜ t ≡ timeoutOf (modelOf r) frame ⌝ }
 {
-    let counts = idles(r, frame);
+    let counts = idles_of(r, frame);
     if counts {
         let next = r.timeout.count.0 as u64 + 1;
-        let most = limit(r).0 as u64;
+        let most = limit_of(r).0 as u64;
         let reached = most <= next;
         if reached {
             return Timeout {
@@ -94,7 +94,7 @@ fn timeout_of(r: Registers, frame: bool) -> Timeout
 
 // The timeout at the end of a cycle; `frame` says whether a frame is in progress then.
 pub fn end_cycle(r: Registers, frame: bool) -> Registers
-    ensures { λ n. ⌜ modelOf n ≡ endedModel (modelOf r) frame ⌝ }
+    ensures { λ n. ⌜ modelOf n ≡ endCycle (modelOf r) frame ⌝ }
 {
     let timeout = timeout_of(r, frame);
     let mut next = r;

@@ -8,12 +8,12 @@ use lib.Dec.{leb, eqb}
 use Rattle.registers.specs.Choose.{pick, bitAt, bitsDiffer}
 use Rattle.registers.specs.Refusals.{firstOf, refusalOf}
 use Rattle.registers.specs.Model.{Model}
-use Rattle.registers.specs.Offsets.{placeOf}
+use Rattle.registers.specs.Offsets.{registerOf}
 use Rattle.registers.specs.Settings.{enabledOf, permittedOf}
 use Rattle.registers.specs.Access.{readRefusal, readWord, readDone, readModel, writeDone, writeModel, readAnswer, bitsBeyond, writeAccess, cr0Rule, cr1Rule, cpsrRule, drRule, writeRule, writeRefusal}
 use Rattle.registers.specs.declared.access.Answer.the-variants.{Word, Refused}
-use Rattle.registers.specs.declared.offsets.Place.{Place}
-use Rattle.registers.specs.declared.offsets.Place.the-variants.{Cr0, Cr1, Dr, Sr, Cpsr, Imsc, Ris, Mis, Icr, Dmacr, Identity, Reserved, Outside}
+use Rattle.registers.specs.declared.offsets.Register.{Register}
+use Rattle.registers.specs.declared.offsets.Register.the-variants.{Cr0, Cr1, Dr, Sr, Cpsr, Imsc, Ris, Mis, Icr, Dmacr, Identity, Reserved, Outside}
 use Rattle.serial.specs.Cycle.{DeviceModel}
 use Rattle.registers.proofs.Picks.{pick-no}
 use Rattle.serial.specs.Engine.{cleared}
@@ -24,7 +24,7 @@ pick-most : (t : Bool) (a b : ℕ) → a ≤ 8 → b ≤ 8 → pick t a b ≤ 8
 pick-most true a b p q = p
 pick-most false a b p q = q
 
-read-refusal-most : (m : Model) (p : Place) → readRefusal m p ≤ 8
+read-refusal-most : (m : Model) (p : Register) → readRefusal m p ≤ 8
 read-refusal-most m Cr0 = omega arith
 read-refusal-most m Cr1 = omega arith
 read-refusal-most m Dr = pick-most (eqb (length (m .rx)) 0) 8 0 (omega arith) (omega arith)
@@ -47,12 +47,12 @@ pub read-most : (d : DeviceModel) (o : ℕ) → refusalOf (readAnswerOf d o) ≤
 unfolding readAnswerOf readAnswer
 read-most d o =
     let m = d .registers in
-    answer-most (eqb (readRefusal m (placeOf o)) 0) (readWord m (d .engine .frame) (placeOf o)) (readRefusal m (placeOf o)) (read-refusal-most m (placeOf o))
+    answer-most (eqb (readRefusal m (registerOf o)) 0) (readWord m (d .engine .frame) (registerOf o)) (readRefusal m (registerOf o)) (read-refusal-most m (registerOf o))
 
 beyond-most : (limit v : ℕ) → bitsBeyond limit v ≤ 8
 beyond-most limit v = pick-most (leb limit v) 4 0 (omega arith) (omega arith)
 
-write-access-most : (p : Place) (v : ℕ) → writeAccess p v ≤ 8
+write-access-most : (p : Register) (v : ℕ) → writeAccess p v ≤ 8
 write-access-most Cr0 v = beyond-most 0x10000 v
 write-access-most Cr1 v = beyond-most 0x10 v
 write-access-most Dr v = beyond-most 0x10000 v
@@ -67,7 +67,7 @@ write-access-most (Identity i) v = omega arith
 write-access-most Reserved v = omega arith
 write-access-most Outside v = omega arith
 
-write-rule-most : (m : Model) (p : Place) (v : ℕ) → writeRule m p v ≤ 8
+write-rule-most : (m : Model) (p : Register) (v : ℕ) → writeRule m p v ≤ 8
 unfolding cr0Rule cr1Rule cpsrRule drRule
 write-rule-most m Cr0 v = pick-most (enabledOf (m .control)) 5 _ (omega arith) (pick-most (permittedOf v) 0 6 (omega arith) (omega arith))
 write-rule-most m Cr1 v =
@@ -88,8 +88,8 @@ write-rule-most m Outside v = omega arith
 pub write-most : (d : DeviceModel) (o v : ℕ) → writeRefusalOf d o v ≤ 8
 unfolding writeRefusalOf writeRefusal
 write-most d o v =
-    let a = writeAccess (placeOf o) v in
-    pick-most (eqb a 0) (writeRule (d .registers) (placeOf o) v) a (write-rule-most (d .registers) (placeOf o) v) (write-access-most (placeOf o) v)
+    let a = writeAccess (registerOf o) v in
+    pick-most (eqb a 0) (writeRule (d .registers) (registerOf o) v) a (write-rule-most (d .registers) (registerOf o) v) (write-access-most (registerOf o) v)
 
 -- A read is never refused with 0.
 refused-some : (t : Bool) (x w k : ℕ) → eqb x 0 ≡ t → pick t (Word w) (Refused x) ≡ Refused k → eqb k 0 ≡ false
@@ -98,16 +98,16 @@ refused-some false x w k q e = let z : x ≡ k = cc in rw z at q
 
 pub refused-read : (d : DeviceModel) (o k : ℕ) → readAnswerOf d o ≡ Refused k → eqb k 0 ≡ false
 unfolding readAnswerOf readAnswer
-refused-read d o k e = refused-some (eqb (readRefusal (d .registers) (placeOf o)) 0) (readRefusal (d .registers) (placeOf o)) (readWord (d .registers) (d .engine .frame) (placeOf o)) k refl e
+refused-read d o k e = refused-some (eqb (readRefusal (d .registers) (registerOf o)) 0) (readRefusal (d .registers) (registerOf o)) (readWord (d .registers) (d .engine .frame) (registerOf o)) k refl e
 
 -- A refused access changes nothing ------------------------------------------------------------------------------------
 
 pub read-same : (d : DeviceModel) (o : ℕ) → eqb (refusalOf (readAnswerOf d o)) 0 ≡ false → readDevice d o ≡ d
 unfolding readAnswerOf readAnswer readDevice readModel
-read-same d o h = go (eqb (readRefusal (d .registers) (placeOf o)) 0) h
+read-same d o h = go (eqb (readRefusal (d .registers) (registerOf o)) 0) h
   where
-    go : (t : Bool) → eqb (refusalOf (pick t (Word (readWord (d .registers) (d .engine .frame) (placeOf o))) (Refused (readRefusal (d .registers) (placeOf o))))) 0 ≡ false
-        → _≡_ {A = DeviceModel} (record { registers = pick t (readDone (d .registers) (placeOf o)) (d .registers); engine = d .engine; pins = d .pins; lines = d .lines }) d
+    go : (t : Bool) → eqb (refusalOf (pick t (Word (readWord (d .registers) (d .engine .frame) (registerOf o))) (Refused (readRefusal (d .registers) (registerOf o))))) 0 ≡ false
+        → _≡_ {A = DeviceModel} (record { registers = pick t (readDone (d .registers) (registerOf o)) (d .registers); engine = d .engine; pins = d .pins; lines = d .lines }) d
     go true k = absurd (true≢false k)
     go false k = refl
 
@@ -123,5 +123,5 @@ pub write-same : (d : DeviceModel) (o v : ℕ) → eqb (writeRefusalOf d o v) 0 
 unfolding writeRefusalOf writeDevice writeModel
 write-same d o v h =
     let m = d .registers in
-    ap (λ (x : Model). record { registers = x; engine = engineAfter m x (d .engine); pins = d .pins; lines = d .lines }) (pick-no (writeDone m (placeOf o) v) m h)
+    ap (λ (x : Model). record { registers = x; engine = engineAfter m x (d .engine); pins = d .pins; lines = d .lines }) (pick-no (writeDone m (registerOf o) v) m h)
     ∙ ap (λ (e : Engine). record { registers = m; engine = e; pins = d .pins; lines = d .lines }) (same-engine m (d .engine))

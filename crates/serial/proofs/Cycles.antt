@@ -4,34 +4,34 @@ use mathlib.Core.Bool.{false}
 use Rattle.registers.proofs.Picks.{pick-no, pick-both}
 use Rattle.registers.specs.Model.{Model}
 use Rattle.registers.specs.Settings.{enabledOf, settingsOf}
-use Rattle.registers.specs.Transfer.{sentModel, receivedModel, endedModel}
+use Rattle.registers.specs.Transfer.{takeWord, receiveWord, endCycle}
 use Rattle.registers.specs.declared.settings.Settings.{Settings}
-use Rattle.serial.specs.Engine.{cleared, still}
+use Rattle.serial.specs.Engine.{cleared, noWord}
 use Rattle.serial.specs.Master.{resting, masterEnd}
 use Rattle.serial.specs.Slave.{slaveEnd}
-use Rattle.serial.specs.Cycle.{DeviceModel, stepOf, endOf, takenModel, completeModel, stepModel, deviceStep, cycleOf}
+use Rattle.serial.specs.Cycle.{DeviceModel, stepOf, endOf, takeIf, receiveIf, stepModel, deviceStep, cycleOf}
 use Rattle.serial.specs.declared.engine.Engine.{Engine}
 use Rattle.serial.specs.declared.engine.Step.{Step}
 use Rattle.serial.specs.declared.lines.Pins.{Pins}
 
 -- what sending and receiving a word keep, a step keeps
-pub step-keeps : (P : Model → Type 0) (m : Model) (r : Step) → ((x : Model) → P x → P (sentModel x)) → ((x : Model) → P x → P (receivedModel x (r .word))) → P m → P (stepModel m r)
-unfolding takenModel completeModel
+pub step-keeps : (P : Model → Type 0) (m : Model) (r : Step) → ((x : Model) → P x → P (takeWord x)) → ((x : Model) → P x → P (receiveWord x (r .word))) → P m → P (stepModel m r)
+unfolding takeIf receiveIf
 step-keeps P m r f g h =
-    let t : P (takenModel m (r .takes)) = pick-both P (r .takes) _ _ (λ _. f m h) (λ _. h) in
-    pick-both P (r .complete) _ _ (λ _. g (takenModel m (r .takes)) t) (λ _. t)
+    let t : P (takeIf m (r .takes)) = pick-both P (r .takes) _ _ (λ _. f m h) (λ _. h) in
+    pick-both P (r .complete) _ _ (λ _. g (takeIf m (r .takes)) t) (λ _. t)
 
 pub control-cycle : (d : DeviceModel) (pins : Pins) → cycleOf d pins .registers .control ≡ d .registers .control
-unfolding cycleOf endedModel sentModel receivedModel
+unfolding cycleOf endCycle takeWord receiveWord
 control-cycle d pins = step-keeps (λ (x : Model). x .control ≡ d .registers .control) (d .registers) (deviceStep d pins) (λ x h. h) (λ x h. h) refl
 
 pub masks-cycle : (d : DeviceModel) (pins : Pins) → cycleOf d pins .registers .masks ≡ d .registers .masks
-unfolding cycleOf endedModel sentModel receivedModel
+unfolding cycleOf endCycle takeWord receiveWord
 masks-cycle d pins = step-keeps (λ (x : Model). x .masks ≡ d .registers .masks) (d .registers) (deviceStep d pins) (λ x h. h) (λ x h. h) refl
 
 -- with SSE clear the engine is clear
 
-pub step-stopped : (d : DeviceModel) (pins : Pins) → enabledOf (d .registers .control) ≡ false → deviceStep d pins ≡ still cleared
+pub step-stopped : (d : DeviceModel) (pins : Pins) → enabledOf (d .registers .control) ≡ false → deviceStep d pins ≡ noWord cleared
 unfolding deviceStep stepOf settingsOf
 step-stopped d pins k = pick-no _ _ k
 

@@ -10,14 +10,14 @@ use Rattle.registers.specs.Choose.{pick}
 use Rattle.registers.proofs.Picks.{pick-yes, pick-no, pick-both, pick-ap, pick-alike}
 use Rattle.registers.specs.Model.{Model}
 use Rattle.registers.specs.Settings.{enabledOf, settingsOf}
-use Rattle.registers.specs.Transfer.{rest, waitingOf, nextWord, sentModel, receivedModel, endedModel}
+use Rattle.registers.specs.Transfer.{rest, waitingOf, nextWord, takeWord, receiveWord, endCycle}
 use Rattle.registers.specs.declared.Control.{Control}
 use Rattle.registers.specs.declared.settings.Settings.{Settings}
-use Rattle.serial.specs.Engine.{withShift, driven, capturedOf, completes, still, captureStep}
+use Rattle.serial.specs.Engine.{withShift, driven, capturedOf, completes, noWord, captureStep}
 use Rattle.serial.specs.Slots.{eventOf, lastSlot}
 use Rattle.serial.specs.Lines.{masterLines, linesOf}
 use Rattle.serial.specs.Master.{joinedShift, act, resting, acting, dataBit, masterStep, ticked, masterEnd}
-use Rattle.serial.specs.Cycle.{DeviceModel, lowPins, stepOf, endOf, takenModel, completeModel, deviceStep, cycleOf}
+use Rattle.serial.specs.Cycle.{DeviceModel, lowPins, stepOf, endOf, takeIf, receiveIf, deviceStep, cycleOf}
 use Rattle.serial.proofs.Cycles.{control-cycle, masks-cycle, cycle-stopped}
 use Rattle.serial.specs.declared.History.{History}
 use Rattle.serial.specs.declared.engine.Shift.{Shift}
@@ -65,14 +65,14 @@ master-deaf : (s : Settings) (e : Engine) (waiting : Bool) (next : ℕ) (rxd rxd
 unfolding masterStep acting resting
 master-deaf s e waiting next rxd rxd′ =
     pick-alike deafStep (acting e waiting) _ _ _ _
-    (act-deaf s e waiting next (dataBit s e rxd) (dataBit s (deaf e) rxd′) (eventOf s (e .slot .0))) refl
+    (act-deaf s e waiting next (dataBit s e rxd) (dataBit s (deaf e) rxd′) (eventOf s (e .slot))) refl
 
 end-deaf : (s : Settings) (e : Engine) → deaf (masterEnd s e) ≡ deaf (masterEnd s (deaf e))
 unfolding masterEnd ticked resting
 end-deaf s e =
     pick-alike deaf (resting e) _ _ _ _ refl
-    (pick-alike deaf (ltb (e .gone .0 + 1) (s .half)) _ _ _ _ refl
-    (pick-alike deaf (ltb (e .slot .0) (lastSlot s)) _ _ _ _ refl refl))
+    (pick-alike deaf (ltb (e .elapsed .0 + 1) (s .divisor .0)) _ _ _ _ refl
+    (pick-alike deaf (ltb (e .slot .0) (lastSlot s .0)) _ _ _ _ refl refl))
 
 -- A master's cycle with nothing received: by the control registers, the words to send and the engine alone -------------
 
@@ -119,11 +119,11 @@ step-alike d d′ p q k a =
 
 -- the transmit queue after a cycle
 pub tx-cycle : (d : DeviceModel) (pins : Pins) → cycleOf d pins .registers .tx ≡ pick (deviceStep d pins .takes) (rest (d .registers .tx)) (d .registers .tx)
-unfolding cycleOf endedModel takenModel completeModel sentModel receivedModel
+unfolding cycleOf endCycle takeIf receiveIf takeWord receiveWord
 tx-cycle d pins =
     let m = d .registers in
     let r = deviceStep d pins in
-    let t : pick (r .takes) (sentModel m) m .tx ≡ pick (r .takes) (rest (m .tx)) (m .tx) = pick-ap (λ (x : Model). x .tx) (r .takes) _ _ in
+    let t : pick (r .takes) (takeWord m) m .tx ≡ pick (r .takes) (rest (m .tx)) (m .tx) = pick-ap (λ (x : Model). x .tx) (r .takes) _ _ in
     pick-both (λ (x : Model). x .tx ≡ pick (r .takes) (rest (m .tx)) (m .tx)) (r .complete) _ _ (λ _. t) (λ _. t)
 
 -- the lines and the engine after a cycle, by the step with the received word forgotten
@@ -172,37 +172,37 @@ masters-cycle d pins k = ap (λ (c : Control). settingsOf c .slave) (control-cyc
 
 -- Past a slot's first cycle ------------------------------------------------------------------------------------------
 
-acting-within : (e : Engine) (waiting : Bool) → (e .gone .0 ≡ 0 → ⊥) → acting e waiting ≡ false
+acting-within : (e : Engine) (waiting : Bool) → (e .elapsed .0 ≡ 0 → ⊥) → acting e waiting ≡ false
 unfolding acting resting
-acting-within e waiting h = simp (ne-eqb (e .gone .0) 0 h, and-false)
+acting-within e waiting h = simp (ne-eqb (e .elapsed .0) 0 h, and-false)
 
 -- A master does nothing.
-pub step-within : (s : Settings) (e : Engine) (waiting : Bool) (next : ℕ) (rxd : Bool) → (e .gone .0 ≡ 0 → ⊥) → masterStep s e waiting next rxd ≡ still e
+pub step-within : (s : Settings) (e : Engine) (waiting : Bool) (next : ℕ) (rxd : Bool) → (e .elapsed .0 ≡ 0 → ⊥) → masterStep s e waiting next rxd ≡ noWord e
 unfolding masterStep
 step-within s e waiting next rxd h = pick-no _ _ (acting-within e waiting h)
 
 -- A cycle that does not end its slot leaves the engine as its lines show it.
-lines-end : (s : Settings) (e : Engine) → (masterEnd s e .gone .0 ≡ 0 → ⊥) → masterLines s (masterEnd s e) ≡ masterLines s e
+lines-end : (s : Settings) (e : Engine) → (masterEnd s e .elapsed .0 ≡ 0 → ⊥) → masterLines s (masterEnd s e) ≡ masterLines s e
 unfolding masterEnd ticked masterLines
 lines-end s e =
-    pick-both (λ (x : Engine). (x .gone .0 ≡ 0 → ⊥) → masterLines s x ≡ masterLines s e) (resting e) _ _ (λ _ _. refl)
-    (λ _. pick-both (λ (x : Engine). (x .gone .0 ≡ 0 → ⊥) → masterLines s x ≡ masterLines s e) (ltb (e .gone .0 + 1) (s .half)) _ _ (λ _ _. refl)
-    (λ _. pick-both (λ (x : Engine). (x .gone .0 ≡ 0 → ⊥) → masterLines s x ≡ masterLines s e) (ltb (e .slot .0) (lastSlot s)) _ _ (λ _ h. absurd (h refl)) (λ _ h. absurd (h refl))))
+    pick-both (λ (x : Engine). (x .elapsed .0 ≡ 0 → ⊥) → masterLines s x ≡ masterLines s e) (resting e) _ _ (λ _ _. refl)
+    (λ _. pick-both (λ (x : Engine). (x .elapsed .0 ≡ 0 → ⊥) → masterLines s x ≡ masterLines s e) (ltb (e .elapsed .0 + 1) (s .divisor .0)) _ _ (λ _ _. refl)
+    (λ _. pick-both (λ (x : Engine). (x .elapsed .0 ≡ 0 → ⊥) → masterLines s x ≡ masterLines s e) (ltb (e .slot .0) (lastSlot s .0)) _ _ (λ _ h. absurd (h refl)) (λ _ h. absurd (h refl))))
 
-step-device : (d : DeviceModel) (pins : Pins) → Masters d → enabledOf (d .registers .control) ≡ true → (d .engine .gone .0 ≡ 0 → ⊥) → deviceStep d pins ≡ still (d .engine)
+step-device : (d : DeviceModel) (pins : Pins) → Masters d → enabledOf (d .registers .control) ≡ true → (d .engine .elapsed .0 ≡ 0 → ⊥) → deviceStep d pins ≡ noWord (d .engine)
 unfolding deviceStep stepOf settingsOf
 step-device d pins k e h = pick-yes _ _ e ∙ pick-no _ _ k ∙ step-within _ (d .engine) (waitingOf (d .registers)) (nextWord (d .registers)) (pins .rxd) h
 
-lines-kept : (d : DeviceModel) (pins : Pins) → Masters d → (cycleOf d pins .engine .gone .0 ≡ 0 → ⊥) → masterLines (settingsOf (d .registers .control)) (cycleOf d pins .engine) ≡ cycleOf d pins .lines
+lines-kept : (d : DeviceModel) (pins : Pins) → Masters d → (cycleOf d pins .engine .elapsed .0 ≡ 0 → ⊥) → masterLines (settingsOf (d .registers .control)) (cycleOf d pins .engine) ≡ cycleOf d pins .lines
 unfolding cycleOf endOf
 lines-kept d pins k h =
     let s = settingsOf (d .registers .control) in
     let e = deviceStep d pins .engine in
     let n : cycleOf d pins .engine ≡ masterEnd s e = pick-no _ _ k in
-    ap (masterLines s) n ∙ lines-end s e (λ z. h (ap (λ (x : Engine). x .gone .0) n ∙ z)) ∙ sym (lines-master d pins k)
+    ap (masterLines s) n ∙ lines-end s e (λ z. h (ap (λ (x : Engine). x .elapsed .0) n ∙ z)) ∙ sym (lines-master d pins k)
 
 -- While a slot lasts the lines stay.
-pub slot-lines : (d : DeviceModel) (p q : Pins) → Masters d → (cycleOf d p .engine .gone .0 ≡ 0 → ⊥) → cycleOf (cycleOf d p) q .lines ≡ cycleOf d p .lines
+pub slot-lines : (d : DeviceModel) (p q : Pins) → Masters d → (cycleOf d p .engine .elapsed .0 ≡ 0 → ⊥) → cycleOf (cycleOf d p) q .lines ≡ cycleOf d p .lines
 slot-lines d p q k h = go (enabledOf (d .registers .control)) refl
   where
     go : (x : Bool) → enabledOf (d .registers .control) ≡ x → cycleOf (cycleOf d p) q .lines ≡ cycleOf d p .lines
@@ -211,4 +211,4 @@ slot-lines d p q k h = go (enabledOf (d .registers .control)) refl
         ∙ ap (λ (r : Step). masterLines (settingsOf (cycleOf d p .registers .control)) (r .engine)) (step-device (cycleOf d p) q (masters-cycle d p k) (ap enabledOf (control-cycle d p) ∙ e) h)
         ∙ ap (λ (c : Control). masterLines (settingsOf c) (cycleOf d p .engine)) (control-cycle d p)
         ∙ lines-kept d p k h
-    go false e = absurd (h (ap (λ (x : Engine). x .gone .0) (cycle-stopped d p e)))
+    go false e = absurd (h (ap (λ (x : Engine). x .elapsed .0) (cycle-stopped d p e)))

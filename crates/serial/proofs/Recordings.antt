@@ -2,22 +2,22 @@
 use Prim.{tt}
 use mathlib.Core.Path.{refl}
 use Rattle.registers.specs.Time.{cyclesOf}
-use Rattle.registers.specs.Offsets.{placeOf}
-use Rattle.registers.specs.Settings.{formatOf, permittedOf, bitsOf, halfOf, enabledOf, settingsOf}
+use Rattle.registers.specs.Offsets.{registerOf}
+use Rattle.registers.specs.Settings.{formatOf, permittedOf, bitsOf, divisorOf, enabledOf, settingsOf}
 use Rattle.registers.specs.Flags.{busyOf, statusOf, rawOf, interruptWord}
 use Rattle.registers.specs.Access.{dataTaken, readAnswer, readModel, cr0Rule, cr1Rule, cpsrRule, drRule, writeRefusal, cr0Written, cr1Written, cpsrWritten, drWritten, dmacrWritten, writeModel}
-use Rattle.registers.specs.Transfer.{added, waitingOf, nextWord, sentModel, receivedModel, idlesOf, limitOf, timeoutOf, endedModel}
+use Rattle.registers.specs.Transfer.{added, waitingOf, nextWord, takeWord, receiveWord, idlesOf, limitOf, timeoutOf, endCycle}
 use Rattle.serial.specs.Bits.{bitOf, shiftedIn}
 use Rattle.serial.specs.Engine.{started, driven, capturedOf, completes, captureStep}
 use Rattle.serial.specs.Slots.{motorolaEvent, tiEvent, microwireEvent, eventOf, lastSlot, widthOf, motorolaLevels, tiLevels, microwireLevels, levelsOf}
 use Rattle.serial.specs.Lines.{pinsOf, byteOf, frameLines, masterLines, linesOf}
 use Rattle.serial.specs.Master.{joinedShift, resting, acting, dataBit, masterStep, ticked, masterEnd}
-use Rattle.serial.specs.Cycle.{stepOf, endOf, takenModel, completeModel, deviceStep, cycleOf}
+use Rattle.serial.specs.Cycle.{stepOf, endOf, takeIf, receiveIf, deviceStep, cycleOf}
 use Rattle.serial.specs.Access.{readAnswerOf, readDevice, writeRefusalOf, engineAfter, writeDevice}
-use Rattle.serial.specs.Recordings.{AllHold, table, setUp, words, held, digits, cyclesLater, linesAlong, afterStep, given, expected, givenAll, expectedAll}
+use Rattle.serial.specs.Recordings.{AllHold, table, setUp, words, held, digits, afterStep, given, expected, givenAll, expectedAll}
 
 -- P1 to P10 hold.
 pub recordings : AllHold table
-unfolding table setUp words held digits cyclesLater linesAlong afterStep given expected givenAll expectedAll added cyclesOf placeOf formatOf permittedOf bitsOf halfOf enabledOf settingsOf busyOf statusOf rawOf interruptWord dataTaken readAnswer readModel cr0Rule cr1Rule cpsrRule drRule writeRefusal cr0Written cr1Written cpsrWritten drWritten dmacrWritten writeModel waitingOf nextWord sentModel receivedModel idlesOf limitOf timeoutOf endedModel bitOf shiftedIn started driven capturedOf completes captureStep motorolaEvent tiEvent microwireEvent eventOf lastSlot widthOf motorolaLevels tiLevels microwireLevels levelsOf pinsOf byteOf frameLines masterLines linesOf joinedShift resting acting dataBit masterStep ticked masterEnd stepOf endOf takenModel completeModel deviceStep cycleOf readAnswerOf readDevice writeRefusalOf engineAfter writeDevice
+unfolding table setUp words held digits afterStep given expected givenAll expectedAll added cyclesOf registerOf formatOf permittedOf bitsOf divisorOf enabledOf settingsOf busyOf statusOf rawOf interruptWord dataTaken readAnswer readModel cr0Rule cr1Rule cpsrRule drRule writeRefusal cr0Written cr1Written cpsrWritten drWritten dmacrWritten writeModel waitingOf nextWord takeWord receiveWord idlesOf limitOf timeoutOf endCycle bitOf shiftedIn started driven capturedOf completes captureStep motorolaEvent tiEvent microwireEvent eventOf lastSlot widthOf motorolaLevels tiLevels microwireLevels levelsOf pinsOf byteOf frameLines masterLines linesOf joinedShift resting acting dataBit masterStep ticked masterEnd stepOf endOf takeIf receiveIf deviceStep cycleOf readAnswerOf readDevice writeRefusalOf engineAfter writeDevice
 recordings =
     (refl, (refl, (refl, (refl, (refl, (refl, (refl, (refl, (refl, (refl, (refl, (refl, (refl, (refl, (refl, (refl, (refl, (refl, tt))))))))))))))))))

@@ -5,22 +5,23 @@ use mathlib.Core.Bool.{Bool, true, false, not, _&&_, _||_}
 use native.Mathlib.Omega.{arith}
 use lib.Dec.{ltb, leb, eqb}
 use borrow.Author.Tests.{ltb-true, leb-true, eqb-true, lt-ltb, le-leb, not-false}
+use Rattle.registers.specs.Time.{slots}
 use Rattle.registers.specs.Choose.{pick}
 use Rattle.registers.proofs.Picks.{pick-yes, pick-no, pick-both, and-left, and-right, and-both, and-off}
 use Rattle.registers.specs.Model.{Model}
-use Rattle.registers.specs.Settings.{formatOf, bitsOf, halfOf, enabledOf, settingsOf}
+use Rattle.registers.specs.Settings.{formatOf, bitsOf, divisorOf, enabledOf, settingsOf}
 use Rattle.registers.specs.Access.{writeModel}
 use Rattle.registers.proofs.Accesses.{SameDivider, control-read, divider-write}
 use Rattle.registers.specs.Transfer.{waitingOf, nextWord}
 use Rattle.registers.specs.Sound.{soundRegisters, registersFit}
-use Rattle.registers.proofs.Soundness.{ControlTold, half-positive, half-most, bits-most}
+use Rattle.registers.proofs.Soundness.{ControlFacts, divisor-positive, divisor-most, bits-most}
 use Rattle.registers.proofs.Soundness as file
 use Rattle.registers.specs.declared.Control.{Control}
 use Rattle.registers.specs.declared.settings.Format.{Format}
 use Rattle.registers.specs.declared.settings.Format.the-variants.{Motorola, Ti, Microwire, Reserved}
 use Rattle.registers.specs.declared.settings.Settings.{Settings}
 use Rattle.serial.specs.Bits.{shiftedIn}
-use Rattle.serial.specs.Engine.{clearShift, cleared, withShift, loaded, started, driven, quieted, capturedOf, completes, still, captureStep}
+use Rattle.serial.specs.Engine.{clearShift, cleared, withShift, loaded, started, driven, quieted, capturedOf, completes, noWord, captureStep}
 use Rattle.serial.specs.Slots.{motorolaEvent, tiEvent, microwireEvent, eventOn, eventOf, lastOn, lastSlot, widthOf}
 use Rattle.serial.specs.Master.{joinedShift, act, resting, acting, dataBit, masterStep, ticked, masterEnd}
 use Rattle.serial.specs.Slave.{selectedOf, motorolaSelect, captureEdge, driveEdge, motorolaClock, motorolaEdges, motorolaSlave, withMark, tiFalls, tiRises, tiSlave, slaveOn, slaveStep, endedOn, slaveEnd}
@@ -37,18 +38,18 @@ use Rattle.serial.specs.declared.slots.Event.the-variants.{Begin, BeginD
 
 -- A running engine's facts. F is what the words' sizes hang on: one walk shows both soundness and what the bytes can hold.
 
-pub record ShiftTold (F : Type 0) (b : ℕ) (x : Shift) : Type 0 where
+pub record ShiftFacts (F : Type 0) (b : ℕ) (x : Shift) : Type 0 where
   pub captured : x .captured ≤ b
   pub sending : F → x .sending < 0x10000
   pub receiving : F → x .receiving < 0x10000
 
-pub record EngineTold (F : Type 0) (s : Settings) (e : Engine) : Type 0 where
-  pub slot : e .slot .0 ≤ lastSlot s
-  pub gone : e .gone .0 < s .half
-  pub shift : ShiftTold F (s .bits) (e .shift)
+pub record EngineFacts (F : Type 0) (s : Settings) (e : Engine) : Type 0 where
+  pub slot : e .slot .0 ≤ lastSlot s .0
+  pub elapsed : e .elapsed .0 < s .divisor .0
+  pub shift : ShiftFacts F (s .bits) (e .shift)
 
-pub record StepTold (F : Type 0) (s : Settings) (r : Step) : Type 0 where
-  pub engine : EngineTold F s (r .engine)
+pub record StepFacts (F : Type 0) (s : Settings) (r : Step) : Type 0 where
+  pub engine : EngineFacts F s (r .engine)
   pub word : r .word < 0x10000
 
 -- Where a chained word's slot lies: at most the last.
@@ -58,7 +59,7 @@ Lands last BeginDrive = Unit {0}
 Lands last (Drive i) = Unit {0}
 Lands last First = Unit {0}
 Lands last Capture = Unit {0}
-Lands last (Chain n) = n ≤ last
+Lands last (Chain n) = n .0 ≤ last
 Lands last (JoinDrive i) = Unit {0}
 Lands last JoinCapture = Unit {0}
 Lands last Quiet = Unit {0}
@@ -91,220 +92,220 @@ event-lands-on Microwire phase b n =
     (lands-pick _ (eqb n (19 + 2 * b)) _ _ tt tt)))))
 event-lands-on Reserved phase b n = tt
 
-event-lands : (s : Settings) (n : ℕ) → Lands (lastSlot s) (eventOf s n)
+event-lands : (s : Settings) (n : ℕ) → Lands (lastSlot s .0) (eventOf s (slots n))
 unfolding eventOf lastSlot
 event-lands s n = event-lands-on (s .format) (s .phase) (s .bits) n
 
 -- The shift registers ------------------------------------------------------------------------------------------------
 
 module _ (F : Type 0) (b : ℕ) where
-  shift-cleared : ShiftTold F b clearShift
+  shift-cleared : ShiftFacts F b clearShift
   shift-cleared = record { captured = omega arith; sending = λ _. omega arith; receiving = λ _. omega arith }
 
-  shift-loaded : (w : ℕ) → (F → w < 0x10000) → ShiftTold F b (loaded w)
+  shift-loaded : (w : ℕ) → (F → w < 0x10000) → ShiftFacts F b (loaded w)
   shift-loaded w h = record { captured = omega arith; sending = h; receiving = λ _. omega arith }
 
-  shift-started : (width w : ℕ) → (F → w < 0x10000) → ShiftTold F b (started width w)
+  shift-started : (width w : ℕ) → (F → w < 0x10000) → ShiftFacts F b (started width w)
   unfolding started
   shift-started width w h = record { captured = omega arith; sending = h; receiving = λ _. omega arith }
 
-  shift-driven : (width i : ℕ) (x : Shift) → ShiftTold F b x → ShiftTold F b (driven width i x)
+  shift-driven : (width i : ℕ) (x : Shift) → ShiftFacts F b x → ShiftFacts F b (driven width i x)
   unfolding driven
   shift-driven width i x t = record { captured = t .captured; sending = t .sending; receiving = t .receiving }
 
-  shift-quieted : (x : Shift) → ShiftTold F b x → ShiftTold F b (quieted x)
+  shift-quieted : (x : Shift) → ShiftFacts F b x → ShiftFacts F b (quieted x)
   shift-quieted x t = record { captured = t .captured; sending = t .sending; receiving = t .receiving }
 
-  shift-joined : (width i w : ℕ) (x : Shift) → (F → w < 0x10000) → ShiftTold F b x → ShiftTold F b (joinedShift width i w x)
+  shift-joined : (width i w : ℕ) (x : Shift) → (F → w < 0x10000) → ShiftFacts F b x → ShiftFacts F b (joinedShift width i w x)
   unfolding joinedShift
   shift-joined width i w x h t = record { captured = t .captured; sending = h; receiving = t .receiving }
 
-  shift-captured : (bit : Bool) (x : Shift) → ShiftTold F b x → ShiftTold F b (capturedOf b bit x)
+  shift-captured : (bit : Bool) (x : Shift) → ShiftFacts F b x → ShiftFacts F b (capturedOf b bit x)
   unfolding capturedOf shiftedIn
   shift-captured bit x t =
-      pick-both (λ (y : Shift). ShiftTold F b y) (ltb (x .captured) b) _ _
+      pick-both (λ (y : Shift). ShiftFacts F b y) (ltb (x .captured) b) _ _
       (λ e. record { captured = let l = ltb-true (x .captured) b e in omega arith; sending = t .sending; receiving = λ _. omega arith })
       (λ _. t)
 
 -- The engine's steps -------------------------------------------------------------------------------------------------
 
 module _ (F : Type 0) (s : Settings) where
-  engine-cleared : 1 ≤ s .half → EngineTold F s cleared
-  engine-cleared h = record { slot = omega arith; gone = h; shift = shift-cleared F (s .bits) }
+  engine-cleared : 1 ≤ s .divisor .0 → EngineFacts F s cleared
+  engine-cleared h = record { slot = omega arith; elapsed = h; shift = shift-cleared F (s .bits) }
 
-  step-still : (e : Engine) → EngineTold F s e → StepTold F s (still e)
+  step-still : (e : Engine) → EngineFacts F s e → StepFacts F s (noWord e)
   step-still e t = record { engine = t; word = omega arith }
 
-  step-pick : (t : Bool) (x y : Step) → StepTold F s x → StepTold F s y → StepTold F s (pick t x y)
-  step-pick t x y p q = pick-both (λ (r : Step). StepTold F s r) t x y (λ _. p) (λ _. q)
+  step-pick : (t : Bool) (x y : Step) → StepFacts F s x → StepFacts F s y → StepFacts F s (pick t x y)
+  step-pick t x y p q = pick-both (λ (r : Step). StepFacts F s r) t x y (λ _. p) (λ _. q)
 
-  engine-pick : (t : Bool) (x y : Engine) → (t ≡ true → EngineTold F s x) → (t ≡ false → EngineTold F s y) → EngineTold F s (pick t x y)
-  engine-pick t x y p q = pick-both (λ (e : Engine). EngineTold F s e) t x y p q
+  engine-pick : (t : Bool) (x y : Engine) → (t ≡ true → EngineFacts F s x) → (t ≡ false → EngineFacts F s y) → EngineFacts F s (pick t x y)
+  engine-pick t x y p q = pick-both (λ (e : Engine). EngineFacts F s e) t x y p q
 
-  step-capture : (bit : Bool) (e : Engine) → EngineTold F s e → StepTold F s (captureStep (s .bits) bit e)
+  step-capture : (bit : Bool) (e : Engine) → EngineFacts F s e → StepFacts F s (captureStep (s .bits) bit e)
   unfolding captureStep shiftedIn
   step-capture bit e t = record {
-    engine = record { slot = t .slot; gone = t .gone; shift = shift-captured F (s .bits) bit (e .shift) (t .shift) };
+    engine = record { slot = t .slot; elapsed = t .elapsed; shift = shift-captured F (s .bits) bit (e .shift) (t .shift) };
     word = pick-both (λ (n : ℕ). n < 0x10000) (completes (s .bits) (e .shift)) _ _ (λ _. omega arith) (λ _. omega arith);
   }
 
-  step-drive : (i width : ℕ) (e : Engine) → EngineTold F s e → StepTold F s (still (withShift e (driven width i (e .shift))))
+  step-drive : (i width : ℕ) (e : Engine) → EngineFacts F s e → StepFacts F s (noWord (withShift e (driven width i (e .shift))))
   step-drive i width e t = record {
-    engine = record { slot = t .slot; gone = t .gone; shift = shift-driven F (s .bits) width i (e .shift) (t .shift) };
+    engine = record { slot = t .slot; elapsed = t .elapsed; shift = shift-driven F (s .bits) width i (e .shift) (t .shift) };
     word = omega arith;
   }
 
   -- The master -----------------------------------------------------------------------------------------------------
 
-  step-act : (e : Engine) (waiting : Bool) (next : ℕ) (bit : Bool) (v : Event) → EngineTold F s e → (F → next < 0x10000) → Lands (lastSlot s) v → StepTold F s (act s e waiting next bit v)
+  step-act : (e : Engine) (waiting : Bool) (next : ℕ) (bit : Bool) (v : Event) → EngineFacts F s e → (F → next < 0x10000) → Lands (lastSlot s .0) v → StepFacts F s (act s e waiting next bit v)
   step-act e waiting next bit Begin t n l = record {
-    engine = record { slot = t .slot; gone = t .gone; shift = shift-loaded F (s .bits) next n };
+    engine = record { slot = t .slot; elapsed = t .elapsed; shift = shift-loaded F (s .bits) next n };
     word = omega arith;
   }
   step-act e waiting next bit BeginDrive t n l = record {
-    engine = record { slot = t .slot; gone = t .gone; shift = shift-started F (s .bits) (widthOf s) next n };
+    engine = record { slot = t .slot; elapsed = t .elapsed; shift = shift-started F (s .bits) (widthOf s) next n };
     word = omega arith;
   }
   step-act e waiting next bit (Drive i) t n l = step-drive i (widthOf s) e t
   step-act e waiting next bit First t n l = record {
-    engine = record { slot = t .slot; gone = t .gone; shift = shift-started F (s .bits) (widthOf s) (e .shift .sending) (t .shift .sending) };
+    engine = record { slot = t .slot; elapsed = t .elapsed; shift = shift-started F (s .bits) (widthOf s) (e .shift .sending) (t .shift .sending) };
     word = omega arith;
   }
   step-act e waiting next bit Capture t n l = step-capture bit e t
   step-act e waiting next bit (Chain k) t n l =
       step-pick waiting _ _
-      (record { engine = record { slot = l; gone = t .gone; shift = shift-started F (s .bits) (widthOf s) next n }; word = omega arith })
+      (record { engine = record { slot = l; elapsed = t .elapsed; shift = shift-started F (s .bits) (widthOf s) next n }; word = omega arith })
       (step-still e t)
   step-act e waiting next bit (JoinDrive i) t n l =
       step-pick waiting _ _
-      (record { engine = record { slot = omega arith; gone = t .gone; shift = shift-joined F (s .bits) (widthOf s) i next (e .shift) n (t .shift) }; word = omega arith })
+      (record { engine = record { slot = omega arith; elapsed = t .elapsed; shift = shift-joined F (s .bits) (widthOf s) i next (e .shift) n (t .shift) }; word = omega arith })
       (step-drive i (widthOf s) e t)
   step-act e waiting next bit JoinCapture t n l = step-pick (eqb (e .shift .captured) 0) _ _ (step-still e t) (step-capture bit e t)
   step-act e waiting next bit Quiet t n l = record {
-    engine = record { slot = t .slot; gone = t .gone; shift = shift-quieted F (s .bits) (e .shift) (t .shift) };
+    engine = record { slot = t .slot; elapsed = t .elapsed; shift = shift-quieted F (s .bits) (e .shift) (t .shift) };
     word = omega arith;
   }
   step-act e waiting next bit Release t n l = record {
-    engine = record { slot = t .slot; gone = t .gone; shift = shift-cleared F (s .bits) };
+    engine = record { slot = t .slot; elapsed = t .elapsed; shift = shift-cleared F (s .bits) };
     word = omega arith;
   }
   step-act e waiting next bit Pause t n l = step-still e t
 
-  step-master : (e : Engine) (waiting : Bool) (next : ℕ) (rxd : Bool) → EngineTold F s e → (F → next < 0x10000) → StepTold F s (masterStep s e waiting next rxd)
+  step-master : (e : Engine) (waiting : Bool) (next : ℕ) (rxd : Bool) → EngineFacts F s e → (F → next < 0x10000) → StepFacts F s (masterStep s e waiting next rxd)
   unfolding masterStep
   step-master e waiting next rxd t n =
-      step-pick (acting e waiting) _ _ (step-act e waiting next (dataBit s e rxd) (eventOf s (e .slot .0)) t n (event-lands s (e .slot .0))) (step-still e t)
+      step-pick (acting e waiting) _ _ (step-act e waiting next (dataBit s e rxd) (eventOf s (e .slot)) t n (event-lands s (e .slot .0))) (step-still e t)
 
-  end-master : (e : Engine) → EngineTold F s e → EngineTold F s (masterEnd s e)
+  end-master : (e : Engine) → EngineFacts F s e → EngineFacts F s (masterEnd s e)
   unfolding masterEnd ticked
   end-master e t =
       engine-pick (resting e) _ _ (λ _. t)
-      (λ _. engine-pick (ltb (e .gone .0 + 1) (s .half)) _ _
-      (λ g. record { slot = t .slot; gone = ltb-true _ _ g; shift = t .shift })
-      (λ _. engine-pick (ltb (e .slot .0) (lastSlot s)) _ _
-      (λ g. record { slot = let l = ltb-true (e .slot .0) (lastSlot s) g in omega arith; gone = let p = t .gone in omega arith; shift = t .shift })
-      (λ _. engine-cleared (let p = t .gone in omega arith))))
+      (λ _. engine-pick (ltb (e .elapsed .0 + 1) (s .divisor .0)) _ _
+      (λ g. record { slot = t .slot; elapsed = ltb-true _ _ g; shift = t .shift })
+      (λ _. engine-pick (ltb (e .slot .0) (lastSlot s .0)) _ _
+      (λ g. record { slot = let l = ltb-true (e .slot .0) (lastSlot s .0) g in omega arith; elapsed = let p = t .elapsed in omega arith; shift = t .shift })
+      (λ _. engine-cleared (let p = t .elapsed in omega arith))))
 
   -- The slave ------------------------------------------------------------------------------------------------------
 
-  step-select : (e : Engine) (fell : Bool) (next : ℕ) → EngineTold F s e → (F → next < 0x10000) → StepTold F s (motorolaSelect s e fell next)
+  step-select : (e : Engine) (fell : Bool) (next : ℕ) → EngineFacts F s e → (F → next < 0x10000) → StepFacts F s (motorolaSelect s e fell next)
   unfolding motorolaSelect
   step-select e fell next t n =
       step-pick fell _ _
       (step-pick (s .phase) _ _
-      (step-still (selectedOf e) (record { slot = t .slot; gone = t .gone; shift = shift-cleared F (s .bits) }))
-      (record { engine = record { slot = t .slot; gone = t .gone; shift = shift-started F (s .bits) (s .bits) next n }; word = omega arith }))
+      (step-still (selectedOf e) (record { slot = t .slot; elapsed = t .elapsed; shift = shift-cleared F (s .bits) }))
+      (record { engine = record { slot = t .slot; elapsed = t .elapsed; shift = shift-started F (s .bits) (s .bits) next n }; word = omega arith }))
       (step-still e t)
 
-  step-clock : (e : Engine) (captures drives : Bool) (next : ℕ) (bit : Bool) → EngineTold F s e → (F → next < 0x10000) → StepTold F s (motorolaClock s e captures drives next bit)
+  step-clock : (e : Engine) (captures drives : Bool) (next : ℕ) (bit : Bool) → EngineFacts F s e → (F → next < 0x10000) → StepFacts F s (motorolaClock s e captures drives next bit)
   unfolding motorolaClock
   step-clock e captures drives next bit t n =
       step-pick (e .frame && captures) _ _ (step-capture bit e t)
       (step-pick (e .frame && drives) _ _ (step-drive (e .shift .captured) (s .bits) e t)
       (step-pick (drives && s .phase) _ _
-      (record { engine = record { slot = t .slot; gone = t .gone; shift = shift-started F (s .bits) (s .bits) next n }; word = omega arith })
+      (record { engine = record { slot = t .slot; elapsed = t .elapsed; shift = shift-started F (s .bits) (s .bits) next n }; word = omega arith })
       (step-still e t)))
 
-  step-edges : (r : Step) (before seen : Pins) (next : ℕ) → StepTold F s r → (F → next < 0x10000) → StepTold F s (motorolaEdges s r before seen next)
+  step-edges : (r : Step) (before seen : Pins) (next : ℕ) → StepFacts F s r → (F → next < 0x10000) → StepFacts F s (motorolaEdges s r before seen next)
   unfolding motorolaEdges
   step-edges r before seen next t n =
       let u = step-clock (r .engine) (captureEdge s before seen) (driveEdge s before seen) next (dataBit s (r .engine) (seen .rxd)) (t .engine) n in
       step-pick (r .engine .selected) _ _ (record { engine = u .engine; word = u .word }) t
 
-  step-motorola : (e : Engine) (before seen : Pins) (next : ℕ) → EngineTold F s e → (F → next < 0x10000) → StepTold F s (motorolaSlave s e before seen next)
+  step-motorola : (e : Engine) (before seen : Pins) (next : ℕ) → EngineFacts F s e → (F → next < 0x10000) → StepFacts F s (motorolaSlave s e before seen next)
   unfolding motorolaSlave
   step-motorola e before seen next t n =
-      step-pick (seen .fss) _ _ (step-still cleared (engine-cleared (let p = t .gone in omega arith)))
+      step-pick (seen .fss) _ _ (step-still cleared (engine-cleared (let p = t .elapsed in omega arith)))
       (step-edges (motorolaSelect s e (before .fss) next) before seen next (step-select e (before .fss) next t n) n)
 
-  step-falls : (e : Engine) (fss bit : Bool) → EngineTold F s e → StepTold F s (tiFalls s e fss bit)
+  step-falls : (e : Engine) (fss bit : Bool) → EngineFacts F s e → StepFacts F s (tiFalls s e fss bit)
   unfolding tiFalls
   step-falls e fss bit t =
-      let m : EngineTold F s (withMark e (e .mark || fss)) = record { slot = t .slot; gone = t .gone; shift = t .shift } in
+      let m : EngineFacts F s (withMark e (e .mark || fss)) = record { slot = t .slot; elapsed = t .elapsed; shift = t .shift } in
       step-pick (e .frame) _ _
       (step-pick (fss && ltb (e .shift .captured + 1) (s .bits)) _ _
-      (record { engine = record { slot = t .slot; gone = t .gone; shift = shift-cleared F (s .bits) }; word = omega arith })
+      (record { engine = record { slot = t .slot; elapsed = t .elapsed; shift = shift-cleared F (s .bits) }; word = omega arith })
       (step-capture bit (withMark e (e .mark || fss)) m))
       (step-still (withMark e (e .mark || fss)) m)
 
-  step-rises : (e : Engine) (next : ℕ) → EngineTold F s e → (F → next < 0x10000) → StepTold F s (tiRises s e next)
+  step-rises : (e : Engine) (next : ℕ) → EngineFacts F s e → (F → next < 0x10000) → StepFacts F s (tiRises s e next)
   unfolding tiRises
   step-rises e next t n =
       step-pick (e .mark) _ _
-      (record { engine = record { slot = t .slot; gone = t .gone; shift = shift-started F (s .bits) (s .bits) next n }; word = omega arith })
+      (record { engine = record { slot = t .slot; elapsed = t .elapsed; shift = shift-started F (s .bits) (s .bits) next n }; word = omega arith })
       (step-pick (e .frame) _ _ (step-drive (e .shift .captured) (s .bits) e t) (step-still e t))
 
-  step-ti : (e : Engine) (before seen : Pins) (next : ℕ) → EngineTold F s e → (F → next < 0x10000) → StepTold F s (tiSlave s e before seen next)
+  step-ti : (e : Engine) (before seen : Pins) (next : ℕ) → EngineFacts F s e → (F → next < 0x10000) → StepFacts F s (tiSlave s e before seen next)
   unfolding tiSlave
   step-ti e before seen next t n =
       step-pick (before .clk && not (seen .clk)) _ _ (step-falls e (seen .fss) (dataBit s e (seen .rxd)) t)
       (step-pick (not (before .clk) && seen .clk) _ _ (step-rises e next t n) (step-still e t))
 
-  step-slave-on : (f : Format) (e : Engine) (before seen : Pins) (next : ℕ) → EngineTold F s e → (F → next < 0x10000) → StepTold F s (slaveOn f s e before seen next)
+  step-slave-on : (f : Format) (e : Engine) (before seen : Pins) (next : ℕ) → EngineFacts F s e → (F → next < 0x10000) → StepFacts F s (slaveOn f s e before seen next)
   step-slave-on Motorola e before seen next t n = step-motorola e before seen next t n
   step-slave-on Ti e before seen next t n = step-ti e before seen next t n
-  step-slave-on Microwire e before seen next t n = step-still cleared (engine-cleared (let p = t .gone in omega arith))
-  step-slave-on Reserved e before seen next t n = step-still cleared (engine-cleared (let p = t .gone in omega arith))
+  step-slave-on Microwire e before seen next t n = step-still cleared (engine-cleared (let p = t .elapsed in omega arith))
+  step-slave-on Reserved e before seen next t n = step-still cleared (engine-cleared (let p = t .elapsed in omega arith))
 
-  step-slave : (e : Engine) (before seen : Pins) (next : ℕ) → EngineTold F s e → (F → next < 0x10000) → StepTold F s (slaveStep s e before seen next)
+  step-slave : (e : Engine) (before seen : Pins) (next : ℕ) → EngineFacts F s e → (F → next < 0x10000) → StepFacts F s (slaveStep s e before seen next)
   unfolding slaveStep
   step-slave e before seen next t n = step-slave-on (s .format) e before seen next t n
 
-  end-on : (f : Format) (e : Engine) → EngineTold F s e → EngineTold F s (endedOn f e)
-  end-on Motorola e t = record { slot = t .slot; gone = t .gone; shift = t .shift }
-  end-on Ti e t = record { slot = t .slot; gone = t .gone; shift = shift-cleared F (s .bits) }
-  end-on Microwire e t = record { slot = t .slot; gone = t .gone; shift = shift-cleared F (s .bits) }
-  end-on Reserved e t = record { slot = t .slot; gone = t .gone; shift = shift-cleared F (s .bits) }
+  end-on : (f : Format) (e : Engine) → EngineFacts F s e → EngineFacts F s (endedOn f e)
+  end-on Motorola e t = record { slot = t .slot; elapsed = t .elapsed; shift = t .shift }
+  end-on Ti e t = record { slot = t .slot; elapsed = t .elapsed; shift = shift-cleared F (s .bits) }
+  end-on Microwire e t = record { slot = t .slot; elapsed = t .elapsed; shift = shift-cleared F (s .bits) }
+  end-on Reserved e t = record { slot = t .slot; elapsed = t .elapsed; shift = shift-cleared F (s .bits) }
 
-  end-slave : (e : Engine) → EngineTold F s e → EngineTold F s (slaveEnd s e)
+  end-slave : (e : Engine) → EngineFacts F s e → EngineFacts F s (slaveEnd s e)
   unfolding slaveEnd
   end-slave e t = engine-pick (e .frame && leb (s .bits) (e .shift .captured)) _ _ (λ _. end-on (s .format) e t) (λ _. t)
 
 -- The tests as facts -------------------------------------------------------------------------------------------------
 
-running-tell : (F : Type 0) (s : Settings) (e : Engine) → EngineTold F s e → runningSound s e ≡ true
+running-tell : (F : Type 0) (s : Settings) (e : Engine) → EngineFacts F s e → runningSound s e ≡ true
 unfolding runningSound
-running-tell F s e t = and-both _ _ (and-both _ _ (le-leb _ _ (t .slot)) (lt-ltb _ _ (t .gone))) (le-leb _ _ (t .shift .captured))
+running-tell F s e t = and-both _ _ (and-both _ _ (le-leb _ _ (t .slot)) (lt-ltb _ _ (t .elapsed))) (le-leb _ _ (t .shift .captured))
 
-record StoppedTold (e : Engine) : Type 0 where
+record StoppedFacts (e : Engine) : Type 0 where
   slot : e .slot .0 ≡ 0
-  gone : e .gone .0 ≡ 0
+  elapsed : e .elapsed .0 ≡ 0
   captured : e .shift .captured ≡ 0
 
-stopped-told : (e : Engine) → stoppedSound e ≡ true → StoppedTold e
+stopped-elim : (e : Engine) → stoppedSound e ≡ true → StoppedFacts e
 unfolding stoppedSound
-stopped-told e h =
+stopped-elim e h =
     let a = and-right ((not (e .frame) && not (e .selected)) && not (e .mark)) _ h in
-    let b = and-left (eqb (e .slot .0) 0 && eqb (e .gone .0) 0) _ a in
+    let b = and-left (eqb (e .slot .0) 0 && eqb (e .elapsed .0) 0) _ a in
     record {
       slot = eqb-true _ _ (and-left (eqb (e .slot .0) 0) _ b);
-      gone = eqb-true _ _ (and-right (eqb (e .slot .0) 0) _ b);
-      captured = eqb-true _ _ (and-right (eqb (e .slot .0) 0 && eqb (e .gone .0) 0) _ a);
+      elapsed = eqb-true _ _ (and-right (eqb (e .slot .0) 0) _ b);
+      captured = eqb-true _ _ (and-right (eqb (e .slot .0) 0 && eqb (e .elapsed .0) 0) _ a);
     }
 
 pub record EngineFit (e : Engine) : Type 0 where
   pub slot : e .slot .0 < 0x100
-  pub gone : e .gone .0 < 0x10000
+  pub elapsed : e .elapsed .0 < 0x10000
   pub captured : e .shift .captured < 0x100
   pub sending : e .shift .sending < 0x10000
   pub receiving : e .shift .receiving < 0x10000
@@ -313,13 +314,13 @@ pub engine-fit : (d : DeviceModel) → deviceFits d ≡ true → EngineFit (d .e
 unfolding deviceFits
 engine-fit d h =
     let a = and-right (registersFit (d .registers)) _ h in
-    let b = and-left ((ltb (d .engine .slot .0) 0x100 && ltb (d .engine .gone .0) 0x10000) && ltb (d .engine .shift .captured) 0x100) _ a in
-    let c = and-right ((ltb (d .engine .slot .0) 0x100 && ltb (d .engine .gone .0) 0x10000) && ltb (d .engine .shift .captured) 0x100) _ a in
-    let g = and-left (ltb (d .engine .slot .0) 0x100 && ltb (d .engine .gone .0) 0x10000) _ b in
+    let b = and-left ((ltb (d .engine .slot .0) 0x100 && ltb (d .engine .elapsed .0) 0x10000) && ltb (d .engine .shift .captured) 0x100) _ a in
+    let c = and-right ((ltb (d .engine .slot .0) 0x100 && ltb (d .engine .elapsed .0) 0x10000) && ltb (d .engine .shift .captured) 0x100) _ a in
+    let g = and-left (ltb (d .engine .slot .0) 0x100 && ltb (d .engine .elapsed .0) 0x10000) _ b in
     record {
       slot = ltb-true _ _ (and-left (ltb (d .engine .slot .0) 0x100) _ g);
-      gone = ltb-true _ _ (and-right (ltb (d .engine .slot .0) 0x100) _ g);
-      captured = ltb-true _ _ (and-right (ltb (d .engine .slot .0) 0x100 && ltb (d .engine .gone .0) 0x10000) _ b);
+      elapsed = ltb-true _ _ (and-right (ltb (d .engine .slot .0) 0x100) _ g);
+      captured = ltb-true _ _ (and-right (ltb (d .engine .slot .0) 0x100 && ltb (d .engine .elapsed .0) 0x10000) _ b);
       sending = ltb-true _ _ (and-left (ltb (d .engine .shift .sending) 0x10000) _ c);
       receiving = ltb-true _ _ (and-right (ltb (d .engine .shift .sending) 0x10000) _ c);
     }
@@ -332,7 +333,7 @@ fits-both : (d : DeviceModel) → registersFit (d .registers) ≡ true → Engin
 unfolding deviceFits
 fits-both d m t =
     and-both _ _ m
-    (and-both _ _ (and-both _ _ (and-both _ _ (lt-ltb _ _ (t .slot)) (lt-ltb _ _ (t .gone))) (lt-ltb _ _ (t .captured)))
+    (and-both _ _ (and-both _ _ (and-both _ _ (lt-ltb _ _ (t .slot)) (lt-ltb _ _ (t .elapsed))) (lt-ltb _ _ (t .captured)))
     (and-both _ _ (lt-ltb _ _ (t .sending)) (lt-ltb _ _ (t .receiving))))
 
 pub sound-registers : (d : DeviceModel) → soundDevice d ≡ true → soundRegisters (d .registers) ≡ true
@@ -348,17 +349,17 @@ unfolding soundDevice
 sound-both d m e = and-both _ _ m e
 
 -- an enabled device's engine
-pub device-told : (d : DeviceModel) → soundDevice d ≡ true → enabledOf (d .registers .control) ≡ true → EngineTold (deviceFits d ≡ true) (settingsOf (d .registers .control)) (d .engine)
+pub device-elim : (d : DeviceModel) → soundDevice d ≡ true → enabledOf (d .registers .control) ≡ true → EngineFacts (deviceFits d ≡ true) (settingsOf (d .registers .control)) (d .engine)
 unfolding engineSound runningSound settingsOf
-device-told d h k =
+device-elim d h k =
     let s = settingsOf (d .registers .control) in
     let r : runningSound s (d .engine) ≡ true = sym (pick-yes _ _ k) ∙ sound-engine d h in
-    let a = and-left (leb (d .engine .slot .0) (lastSlot s) && ltb (d .engine .gone .0) (s .half)) _ r in
+    let a = and-left (leb (d .engine .slot .0) (lastSlot s .0) && ltb (d .engine .elapsed .0) (s .divisor .0)) _ r in
     record {
-      slot = leb-true _ _ (and-left (leb (d .engine .slot .0) (lastSlot s)) _ a);
-      gone = ltb-true _ _ (and-right (leb (d .engine .slot .0) (lastSlot s)) _ a);
+      slot = leb-true _ _ (and-left (leb (d .engine .slot .0) (lastSlot s .0)) _ a);
+      elapsed = ltb-true _ _ (and-right (leb (d .engine .slot .0) (lastSlot s .0)) _ a);
       shift = record {
-        captured = leb-true _ _ (and-right (leb (d .engine .slot .0) (lastSlot s) && ltb (d .engine .gone .0) (s .half)) _ r);
+        captured = leb-true _ _ (and-right (leb (d .engine .slot .0) (lastSlot s .0) && ltb (d .engine .elapsed .0) (s .divisor .0)) _ r);
         sending = λ f. engine-fit d f .sending;
         receiving = λ f. engine-fit d f .receiving;
       };
@@ -374,29 +375,29 @@ unfolding engineSound settingsOf
 running-sound c e k h = pick-yes _ _ k ∙ h
 
 -- an engine that stands still is sound whatever the control registers say
-stopped-sound : (c : Control) (e : Engine) → ControlTold c → stoppedSound e ≡ true → engineSound (settingsOf c) e ≡ true
+stopped-sound : (c : Control) (e : Engine) → ControlFacts c → stoppedSound e ≡ true → engineSound (settingsOf c) e ≡ true
 unfolding engineSound settingsOf
 stopped-sound c e t h =
-    let z = stopped-told e h in
+    let z = stopped-elim e h in
     pick-both (λ (x : Bool). x ≡ true) (enabledOf c) _ _
     (λ k. running-tell ⊥ (settingsOf c) e (record {
       slot = let p = z .slot in omega arith;
-      gone = let p = z .gone in let q = half-positive c t k in omega arith;
+      elapsed = let p = z .elapsed in let q = divisor-positive c t k in omega arith;
       shift = record { captured = let p = z .captured in omega arith; sending = λ f. absurd f; receiving = λ f. absurd f };
     }))
     (λ _. h)
 
-cleared-sound : (c : Control) → ControlTold c → engineSound (settingsOf c) cleared ≡ true
+cleared-sound : (c : Control) → ControlFacts c → engineSound (settingsOf c) cleared ≡ true
 unfolding stoppedSound
 cleared-sound c t = stopped-sound c cleared t refl
 
 cleared-fit : EngineFit cleared
-cleared-fit = record { slot = omega arith; gone = omega arith; captured = omega arith; sending = omega arith; receiving = omega arith }
+cleared-fit = record { slot = omega arith; elapsed = omega arith; captured = omega arith; sending = omega arith; receiving = omega arith }
 
 -- Reset and accesses -------------------------------------------------------------------------------------------------
 
 pub sound-reset : soundDevice resetDevice ≡ true
-sound-reset = sound-both resetDevice file.sound-reset (cleared-sound _ (file.sound-told _ file.sound-reset .control))
+sound-reset = sound-both resetDevice file.sound-reset (cleared-sound _ (file.sound-elim _ file.sound-reset .control))
 
 pub fits-reset : deviceFits resetDevice ≡ true
 fits-reset = fits-both resetDevice file.fits-reset cleared-fit
@@ -412,9 +413,9 @@ unfolding readDevice
 fits-read d o h = fits-both _ (file.fits-read (d .registers) o (fits-registers d h)) (engine-fit d h)
 
 -- A write that leaves SSE set leaves all that a running engine's soundness hangs on.
-written-sound : (m n : Model) (e : Engine) → ControlTold (n .control) → SameDivider m n → enabledOf (m .control) ≡ true → enabledOf (n .control) ≡ true
+written-sound : (m n : Model) (e : Engine) → ControlFacts (n .control) → SameDivider m n → enabledOf (m .control) ≡ true → enabledOf (n .control) ≡ true
     → engineSound (settingsOf (m .control)) e ≡ true → engineSound (settingsOf (n .control)) e ≡ true
-unfolding engineSound runningSound settingsOf halfOf lastSlot
+unfolding engineSound runningSound settingsOf divisorOf lastSlot
 written-sound m n e t same k l h =
     pick-yes _ _ l ∙ rw (same .cr0, same .cpsr) (sym (pick-yes _ _ k) ∙ h)
 
@@ -424,13 +425,13 @@ sound-write d o v h =
     let m = d .registers in
     let n = writeModel m o v in
     let r = file.sound-write m o v (sound-registers d h) in
-    let t = file.sound-told n r .control in
+    let t = file.sound-elim n r .control in
     sound-both _ r
     (pick-both (λ (e : Engine). engineSound (settingsOf (n .control)) e ≡ true) (enabledOf (m .control) && not (enabledOf (n .control))) _ _
     (λ _. cleared-sound (n .control) t)
     (λ k. go (enabledOf (m .control)) refl t k))
   where
-    go : (x : Bool) → enabledOf (d .registers .control) ≡ x → ControlTold (writeModel (d .registers) o v .control)
+    go : (x : Bool) → enabledOf (d .registers .control) ≡ x → ControlFacts (writeModel (d .registers) o v .control)
         → (enabledOf (d .registers .control) && not (enabledOf (writeModel (d .registers) o v .control))) ≡ false
         → engineSound (settingsOf (writeModel (d .registers) o v .control)) (d .engine) ≡ true
     go true e t k =
@@ -459,20 +460,20 @@ fits-registers-cycle d pins w h =
     file.fits-ended _ _
     (step-keeps (λ (x : Model). registersFit x ≡ true) (d .registers) (deviceStep d pins) file.fits-sent (λ x k. file.fits-received x (deviceStep d pins .word) w k) h)
 
-step-enabled : (d : DeviceModel) (pins : Pins) → soundDevice d ≡ true → enabledOf (d .registers .control) ≡ true → StepTold (deviceFits d ≡ true) (settingsOf (d .registers .control)) (deviceStep d pins)
+step-enabled : (d : DeviceModel) (pins : Pins) → soundDevice d ≡ true → enabledOf (d .registers .control) ≡ true → StepFacts (deviceFits d ≡ true) (settingsOf (d .registers .control)) (deviceStep d pins)
 unfolding deviceStep stepOf
 step-enabled d pins h k =
     let F = deviceFits d ≡ true in
     let s = settingsOf (d .registers .control) in
-    let t = device-told d h k in
-    let n : F → nextWord (d .registers) < 0x10000 = λ f. file.next-fits (d .registers) (file.fits-told (d .registers) (fits-registers d f) .tx) in
+    let t = device-elim d h k in
+    let n : F → nextWord (d .registers) < 0x10000 = λ f. file.next-fits (d .registers) (file.fits-elim (d .registers) (fits-registers d f) .tx) in
     step-pick F s (s .enabled) _ _
     (step-pick F s (s .slave) _ _
     (step-slave F s (d .engine) (d .pins .oldest) (d .pins .middle) (nextWord (d .registers)) t n)
     (step-master F s (d .engine) (waitingOf (d .registers)) (nextWord (d .registers)) (pins .rxd) t n))
-    (step-still F s cleared (engine-cleared F s (let p = t .gone in omega arith)))
+    (step-still F s cleared (engine-cleared F s (let p = t .elapsed in omega arith)))
 
-cycle-enabled : (d : DeviceModel) (pins : Pins) → soundDevice d ≡ true → enabledOf (d .registers .control) ≡ true → EngineTold (deviceFits d ≡ true) (settingsOf (d .registers .control)) (cycleOf d pins .engine)
+cycle-enabled : (d : DeviceModel) (pins : Pins) → soundDevice d ≡ true → enabledOf (d .registers .control) ≡ true → EngineFacts (deviceFits d ≡ true) (settingsOf (d .registers .control)) (cycleOf d pins .engine)
 unfolding cycleOf endOf
 cycle-enabled d pins h k =
     let F = deviceFits d ≡ true in
@@ -489,7 +490,7 @@ sound-cycle d pins h =
     go true k = running-sound (d .registers .control) _ k (running-tell _ _ _ (cycle-enabled d pins h k))
     go false k =
         ap (λ (e : Engine). engineSound (settingsOf (d .registers .control)) e) (cycle-stopped d pins k)
-        ∙ cleared-sound (d .registers .control) (file.sound-told (d .registers) (sound-registers d h) .control)
+        ∙ cleared-sound (d .registers .control) (file.sound-elim (d .registers) (sound-registers d h) .control)
 
 -- a running engine within its bounds has room in the bytes
 last-most : (f : Format) (b : ℕ) → b ≤ 16 → lastOn f b ≤ 52
@@ -498,15 +499,15 @@ last-most Ti b h = omega arith
 last-most Microwire b h = omega arith
 last-most Reserved b h = omega arith
 
-running-fit : (F : Type 0) (c : Control) (e : Engine) → c .cpsr < 0x100 → EngineTold F (settingsOf c) e → F → EngineFit e
+running-fit : (F : Type 0) (c : Control) (e : Engine) → c .cpsr < 0x100 → EngineFacts F (settingsOf c) e → F → EngineFit e
 unfolding settingsOf lastSlot
 running-fit F c e p t f =
     let l = last-most (formatOf (c .cr0)) (bitsOf (c .cr0)) (bits-most (c .cr0)) in
     let n = bits-most (c .cr0) in
-    let g = half-most c p in
+    let g = divisor-most c p in
     record {
       slot = let a = t .slot in omega arith;
-      gone = let a = t .gone in omega arith;
+      elapsed = let a = t .elapsed in omega arith;
       captured = let a = t .shift .captured in omega arith;
       sending = t .shift .sending f;
       receiving = t .shift .receiving f;
@@ -518,6 +519,6 @@ fits-cycle d pins h f = go (enabledOf (d .registers .control)) refl
     go : (x : Bool) → enabledOf (d .registers .control) ≡ x → deviceFits (cycleOf d pins) ≡ true
     go true k =
         fits-both (cycleOf d pins) (fits-registers-cycle d pins (step-enabled d pins h k .word) (fits-registers d f))
-        (running-fit _ (d .registers .control) _ (file.fits-told (d .registers) (fits-registers d f) .cpsr) (cycle-enabled d pins h k) f)
+        (running-fit _ (d .registers .control) _ (file.fits-elim (d .registers) (fits-registers d f) .cpsr) (cycle-enabled d pins h k) f)
     go false k =
         fits-both (cycleOf d pins) (fits-registers-cycle d pins (rw (step-stopped d pins k) (omega arith)) (fits-registers d f)) (rw (cycle-stopped d pins k) cleared-fit)

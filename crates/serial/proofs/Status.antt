@@ -7,7 +7,7 @@ use lib.Dec.{ltb, leb, eqb}
 use lib.ListN.{length}
 use Rattle.registers.specs.Choose.{pick}
 use Rattle.registers.specs.Model.{Model}
-use Rattle.registers.specs.Offsets.{placeOf}
+use Rattle.registers.specs.Offsets.{registerOf}
 use Rattle.registers.specs.Flags.{busyOf, statusOf}
 use Rattle.registers.specs.Access.{readAnswer}
 use Rattle.registers.specs.declared.access.Answer.{Answer}
@@ -56,7 +56,7 @@ status-busy m frame = bits-busy (busyOf m frame) (leb 8 (length (m .rx))) (not (
 
 -- A read of SR is answered with a word.
 status-answer : (d : DeviceModel) → readAnswerOf d 12 ≡ Word (statusOf (d .registers) (d .engine .frame))
-unfolding readAnswerOf readAnswer placeOf
+unfolding readAnswerOf readAnswer registerOf
 status-answer d = refl
 
 module _ (d : DeviceModel) (a : Answer) (e : a ≡ readAnswerOf d 12) where

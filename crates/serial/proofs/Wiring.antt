@@ -3,7 +3,7 @@ use Prim.Native.Nat.{ℕ, suc, _+_, _-_, _≤_, _<_}
 use mathlib.Core.Path.{_≡_, refl, sym, ap, _∙_}
 use native.Mathlib.Omega.{arith}
 use Rattle.serial.specs.Cycle.{deviceOf}
-use Rattle.serial.specs.Pair.{PairModel, pairCycle, later}
+use Rattle.serial.specs.Pair.{PairModel, pairCycle, pairRun}
 use Rattle.serial.specs.declared.Device.{Device}
 
 pub device-lines : (d : Device) → deviceOf d .lines ≡ d .lines
@@ -11,11 +11,11 @@ unfolding deviceOf
 device-lines d = refl
 
 -- one cycle of those left
-pub later-next : (n i : ℕ) (p q : PairModel) → i < n → q ≡ pairCycle p → later (n - i) p ≡ later (n - (i + 1)) q
-later-next n i p q l e =
+pub pair-run-next : (n i : ℕ) (p q : PairModel) → i < n → q ≡ pairCycle p → pairRun (n - i) p ≡ pairRun (n - (i + 1)) q
+pair-run-next n i p q l e =
     let k : n - i ≡ suc (n - (i + 1)) = omega arith in
-    ap (λ (x : ℕ). later x p) k ∙ ap (later (n - (i + 1))) (sym e)
+    ap (λ (x : ℕ). pairRun x p) k ∙ ap (pairRun (n - (i + 1))) (sym e)
 
 -- none left
-pub later-none : (n i : ℕ) (p : PairModel) → n ≤ i → later (n - i) p ≡ p
-later-none n i p l = let k : n - i ≡ 0 = omega arith in ap (λ (x : ℕ). later x p) k
+pub pair-run-none : (n i : ℕ) (p : PairModel) → n ≤ i → pairRun (n - i) p ≡ p
+pair-run-none n i p l = let k : n - i ≡ 0 = omega arith in ap (λ (x : ℕ). pairRun x p) k

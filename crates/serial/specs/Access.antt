@@ -3,7 +3,7 @@ use Prim.Native.Nat.{ℕ}
 use mathlib.Core.Path.{_≡_}
 use mathlib.Core.Bool.{Bool, not, _&&_}
 use Rattle.registers.specs.Choose.{pick}
-use Rattle.registers.specs.Offsets.{placeOf}
+use Rattle.registers.specs.Offsets.{registerOf}
 use Rattle.registers.specs.Settings.{enabledOf}
 use Rattle.registers.specs.Access.{readAnswer, readModel, writeRefusal, writeModel}
 use Rattle.registers.specs.Model.{Model}
@@ -23,7 +23,7 @@ readDevice d o = record { registers = readModel (d .registers) o; engine = d .en
 
 -- The refusal number of a write, 0 if it is done.
 unfoldable pub writeRefusalOf : DeviceModel → ℕ → ℕ → ℕ
-writeRefusalOf d o v = writeRefusal (d .registers) (placeOf o) v
+writeRefusalOf d o v = writeRefusal (d .registers) (registerOf o) v
 
 -- Clearing SSE ends a frame or an idle slot at once: the engine is clear.
 unfoldable pub engineAfter : Model → Model → Engine → Engine
@@ -34,10 +34,10 @@ writeDevice d o v =
     let m = writeModel (d .registers) o v in
     record { registers = m; engine = engineAfter (d .registers) m (d .engine); pins = d .pins; lines = d .lines }
 
-pub record ReadAs (d : DeviceModel) (o : ℕ) (r : Reading) : Type 0 where
+pub record Read (d : DeviceModel) (o : ℕ) (r : Reading) : Type 0 where
   pub answer : r .answer ≡ readAnswerOf d o
   pub device : deviceOf (r .device) ≡ readDevice d o
 
-pub record WrittenAs (d : DeviceModel) (o v : ℕ) (r : Written) : Type 0 where
+pub record Write (d : DeviceModel) (o v : ℕ) (r : Written) : Type 0 where
   pub refusal : r .refusal ≡ writeRefusalOf d o v
   pub device : deviceOf (r .device) ≡ writeDevice d o v

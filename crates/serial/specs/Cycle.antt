@@ -2,13 +2,13 @@
 use Prim.Native.Nat.{ℕ}
 use mathlib.Core.Path.{_≡_}
 use mathlib.Core.Bool.{Bool, true, false}
-use mathlib.Core.List.{List, [], _∷_}
+use mathlib.Core.List.{List, [], _∷_, map}
 use Rattle.registers.specs.Choose.{pick}
-use Rattle.registers.specs.Model.{Model, modelOf, resetModel}
+use Rattle.registers.specs.Model.{Model, modelOf, resetRegisters}
 use Rattle.registers.specs.Settings.{settingsOf}
-use Rattle.registers.specs.Transfer.{waitingOf, nextWord, sentModel, receivedModel, endedModel}
+use Rattle.registers.specs.Transfer.{waitingOf, nextWord, takeWord, receiveWord, endCycle}
 use Rattle.registers.specs.declared.settings.Settings.{Settings}
-use Rattle.serial.specs.Engine.{cleared, still}
+use Rattle.serial.specs.Engine.{cleared, noWord}
 use Rattle.serial.specs.Lines.{linesOf}
 use Rattle.serial.specs.Master.{masterStep, masterEnd}
 use Rattle.serial.specs.Slave.{slaveStep, slaveEnd}
@@ -39,7 +39,7 @@ lowPins = record { clk = false; fss = false; rxd = false }
 abbrev pub resetDevice : DeviceModel
 resetDevice =
     record {
-      registers = resetModel;
+      registers = resetRegisters;
       engine = cleared;
       pins = record { newest = lowPins; middle = lowPins; oldest = lowPins };
       lines = record { clk = false; fss = true; txd = false; released = true };
@@ -50,23 +50,23 @@ unfoldable pub stepOf : Settings → Engine → History → Pins → Bool → �
 stepOf s e h pins waiting next =
     pick (s .enabled)
     (pick (s .slave) (slaveStep s e (h .oldest) (h .middle) next) (masterStep s e waiting next (pins .rxd)))
-    (still cleared)
+    (noWord cleared)
 
 -- The engine at the end of the cycle.
 unfoldable pub endOf : Settings → Engine → Engine
 endOf s e = pick (s .slave) (slaveEnd s e) (masterEnd s e)
 
 -- The word taken leaves the transmit queue.
-unfoldable pub takenModel : Model → Bool → Model
-takenModel m takes = pick takes (sentModel m) m
+unfoldable pub takeIf : Model → Bool → Model
+takeIf m takes = pick takes (takeWord m) m
 
 -- The word completed enters the receive queue.
-unfoldable pub completeModel : Model → Bool → ℕ → Model
-completeModel m complete w = pick complete (receivedModel m w) m
+unfoldable pub receiveIf : Model → Bool → ℕ → Model
+receiveIf m complete w = pick complete (receiveWord m w) m
 
 -- The register file after a step.
 abbrev pub stepModel : Model → Step → Model
-stepModel m r = completeModel (takenModel m (r .takes)) (r .complete) (r .word)
+stepModel m r = receiveIf (takeIf m (r .takes)) (r .complete) (r .word)
 
 -- The step of a device in a cycle.
 unfoldable pub deviceStep : DeviceModel → Pins → Step
@@ -88,8 +88,25 @@ cycleOf d pins =
     let r = deviceStep d pins in
     let e = endOf s (r .engine) in
     record {
-      registers = endedModel (stepModel (d .registers) r) (e .frame);
+      registers = endCycle (stepModel (d .registers) r) (e .frame);
       engine = e;
       pins = follow (d .pins) pins;
       lines = linesOf s (r .engine);
     }
+
+-- A run: one cycle for each entry of a list of pins, and the device after each of them.
+abbrev pub run : DeviceModel → List Pins → List DeviceModel
+run d [] = []
+run d (p ∷ ps) = cycleOf d p ∷ run (cycleOf d p) ps
+
+abbrev pub lastOf : DeviceModel → List DeviceModel → DeviceModel
+lastOf d [] = d
+lastOf d (x ∷ xs) = lastOf x xs
+
+-- The device that a run leaves.
+abbrev pub after : DeviceModel → List Pins → DeviceModel
+after d ps = lastOf d (run d ps)
+
+-- The lines of its cycles.
+abbrev pub recording : DeviceModel → List Pins → List Lines
+recording d ps = map (λ (x : DeviceModel). x .lines) (run d ps)

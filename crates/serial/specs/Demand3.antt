@@ -1,4 +1,4 @@
--- Demand 3 as a statement: what is compared, from which starts, over which lists of steps. No proof stands here: `demand3` of Pair/Claim.antt proves the first part, `enabling-told` of Alone/Enabled.antt the last sentence; Demand3/Records.antt carries both to records and output bytes.
+-- Demand 3 as a statement: what is compared, from which starts, over which lists of steps. No proof stands here: `demand3` of Pair/Claim.antt proves the first part, `enabling-injective` of Alone/Enabled.antt the last sentence; Demand3/Records.antt carries both to records and output bytes.
 use Prim.Native.Nat.{ℕ, zero, suc, _+_, _*_, _≤_, _<_}
 use mathlib.Core.Path.{_≡_}
 use mathlib.Core.Bool.{Bool, true, false}
@@ -6,21 +6,24 @@ use mathlib.Core.Logic.{_⊎_}
 use mathlib.Core.List.{List, [], _∷_, _++_, map}
 use lib.Dec.{ltb}
 use lib.ListN.{length, take, replicate}
+use Rattle.registers.specs.Time.{cycles, slots, cyclesOf}
 use Rattle.registers.specs.Settings.{settingsOf, enabledOf, permittedOf}
+use Rattle.registers.specs.declared.time.Cycles.{Cycles}
+use Rattle.registers.specs.declared.time.Divisor.{Divisor}
 use Rattle.registers.specs.declared.Control.{Control}
 use Rattle.registers.specs.declared.settings.Format.{Format}
 use Rattle.registers.specs.declared.settings.Format.the-variants.{Motorola, Ti, Microwire, Reserved}
 use Rattle.registers.specs.declared.settings.Settings.{Settings}
-use Rattle.serial.specs.Cycle.{DeviceModel, completedOf}
+use Rattle.serial.specs.Cycle.{DeviceModel, completedOf, recording}
 use Rattle.serial.specs.Access.{readDevice, writeDevice}
 use Rattle.serial.specs.Busy.{busyDevice}
 use Rattle.serial.specs.Sound.{soundDevice}
-use Rattle.serial.specs.Drawing.{slotTotal, recording}
+use Rattle.serial.specs.Drawing.{slotTotal}
 use Rattle.serial.specs.Bits.{cut}
 use Rattle.serial.specs.Lines.{byteOf}
 use Rattle.serial.specs.Slots.{widthOf}
 use Rattle.serial.specs.declared.lines.Pins.{Pins}
-use Rattle.serial.specs.Pair.{wire, PairModel, pairCycle, later}
+use Rattle.serial.specs.Pair.{wire, PairModel, pairCycle, pairRun}
 
 -- Steps ----------------------------------------------------------------------------------------------------------------
 
@@ -85,13 +88,13 @@ pub record Start (p : PairModel) : Type 0 where
   pub polarity : settingsOf (controlOf slave p) .polarity ≡ settingsOf (controlOf master p) .polarity
   pub phase : settingsOf (controlOf slave p) .phase ≡ settingsOf (controlOf master p) .phase
   -- the master's bit at least 12 cycles long
-  pub half : 6 ≤ settingsOf (controlOf master p) .half
+  pub divisor : 6 ≤ settingsOf (controlOf master p) .divisor .0
   pub is-master : settingsOf (controlOf master p) .slave ≡ false
   pub is-slave : settingsOf (controlOf slave p) .slave ≡ true
   -- loopback off, slave output on
   pub straight-master : settingsOf (controlOf master p) .loopback ≡ false
   pub straight-slave : settingsOf (controlOf slave p) .loopback ≡ false
-  pub output : settingsOf (controlOf slave p) .silent ≡ false
+  pub output : settingsOf (controlOf slave p) .sod ≡ false
   -- off, overrun flags clear
   pub off-master : settingsOf (controlOf master p) .enabled ≡ false
   pub off-slave : settingsOf (controlOf slave p) .enabled ≡ false
@@ -129,30 +132,34 @@ abbrev pub due : ℕ → Which → PairModel → List ℕ
 due b master g = map (cut b) (take (length (load master g)) (load slave g ++ replicate (length (load master g)) 0))
 due b slave g = map (cut b) (load master g)
 
--- The cycles from a master's enabling to its first BSY 0; for a master alone, of each format, Alone/Free.antt proves it.
-abbrev pub busyFor : Format → Bool → ℕ → ℕ → ℕ → ℕ
-busyFor f phase b h zero = 0
-busyFor Motorola false b h (suc n) = (n * (2 * b + 4) + (2 * b + 2)) * h + 1
-busyFor Motorola true b h (suc n) = (2 * b * suc n + 2) * h + 1
-busyFor Ti phase b h (suc n) = (2 * b * suc n + 2) * h
-busyFor Microwire phase b h (suc n) = (suc n * (2 * b + 18) + 1) * h + 1
-busyFor Reserved phase b h (suc n) = 0
+-- One cycle more.
+abbrev pub oneMore : Cycles → Cycles
+oneMore n = cycles (n .0 + 1)
+
+-- The cycles from a master's enabling to its first BSY 0: its slots up to the one in which the frame ends, and in all but TI the first cycle of that. For a master alone, of each format, proofs/Drawing/Free.antt proves it.
+abbrev pub busyFor : Format → Bool → ℕ → Divisor → ℕ → Cycles
+busyFor f phase b h zero = cycles 0
+busyFor Motorola false b h (suc n) = oneMore (cyclesOf (slots (n * (2 * b + 4) + (2 * b + 2))) h)
+busyFor Motorola true b h (suc n) = oneMore (cyclesOf (slots (2 * b * suc n + 2)) h)
+busyFor Ti phase b h (suc n) = cyclesOf (slots (2 * b * suc n + 2)) h
+busyFor Microwire phase b h (suc n) = oneMore (cyclesOf (slots (suc n * (2 * b + 18) + 1)) h)
+busyFor Reserved phase b h (suc n) = cycles 0
 
 -- What a device has received n cycles after the enabling: exactly the words due; its receive queue the first eight of those held and those received; ROR exactly if there were more.
 pub record Received (b n : ℕ) (d : Which) (g : PairModel) : Type 0 where
   pub words : received d n g ≡ due b d g
-  pub queue : held d (later n g) ≡ take 8 (held d g ++ due b d g)
-  pub overrun : side d (later n g) .registers .ror ≡ ltb 8 (length (held d g ++ due b d g))
+  pub queue : held d (pairRun n g) ≡ take 8 (held d g ++ due b d g)
+  pub overrun : side d (pairRun n g) .registers .ror ≡ ltb 8 (length (held d g ++ due b d g))
 
 -- Of the state g at the master's enabling: the first BSY 0, at most the slot total times h cycles later, and what both have received from then on.
 pub record Exchanged (g : PairModel) : Type 0 where
-  pub at : ℕ
-  pub figure : at ≡ busyFor (settingsOf (controlOf master g) .format) (settingsOf (controlOf master g) .phase) (settingsOf (controlOf master g) .bits) (settingsOf (controlOf master g) .half) (length (load master g))
-  pub bound : at ≤ slotTotal (settingsOf (controlOf master g)) (length (load master g)) * settingsOf (controlOf master g) .half
-  pub busy-before : (i : ℕ) → i < at → busy master (later i g) ≡ true
-  pub free : busy master (later at g) ≡ false
-  pub master-received : (j : ℕ) → Received (settingsOf (controlOf master g) .bits) (at + j) master g
-  pub slave-received : (j : ℕ) → Received (settingsOf (controlOf master g) .bits) (at + j) slave g
+  pub at : Cycles
+  pub figure : at ≡ busyFor (settingsOf (controlOf master g) .format) (settingsOf (controlOf master g) .phase) (settingsOf (controlOf master g) .bits) (settingsOf (controlOf master g) .divisor) (length (load master g))
+  pub bound : at .0 ≤ cyclesOf (slotTotal (settingsOf (controlOf master g)) (length (load master g))) (settingsOf (controlOf master g) .divisor) .0
+  pub busy-before : (i : ℕ) → i < at .0 → busy master (pairRun i g) ≡ true
+  pub free : busy master (pairRun (at .0) g) ≡ false
+  pub master-received : (j : ℕ) → Received (settingsOf (controlOf master g) .bits) (at .0 + j) master g
+  pub slave-received : (j : ℕ) → Received (settingsOf (controlOf master g) .bits) (at .0 + j) slave g
 
 -- The states on the way: four or more cycles and any accesses; the slave's enabling; cycles and accesses; the master's enabling, the last access.
 abbrev pub slaveOn : List Step → PairModel → PairModel
@@ -178,7 +185,7 @@ pub record Enabling (s : Settings) (d : DeviceModel) (o v : ℕ) : Type 0 where
 
 -- As many cycles as a load needs from enabling to its last idle slot, the slot total times h, or more.
 abbrev pub WholeLoad : Settings → DeviceModel → List Pins → Type 0
-WholeLoad s d ps = slotTotal s (length (d .registers .tx)) * s .half ≤ length ps
+WholeLoad s d ps = cyclesOf (slotTotal s (length (d .registers .tx))) (s .divisor) .0 ≤ length ps
 
 -- For given master settings, no frame in progress at enabling and no access after it: two loads that give the same output bytes
 -- from enabling to the last idle slot, or longer, whatever the input pins carry, are equal after cutting to b bits, Microwire to 8.

@@ -1,9 +1,11 @@
--- A master alone: what its lines show slot by slot for a load, and the recording of a device's cycles.
+-- A master alone: what its lines show slot by slot for a load.
 use Prim.Native.Nat.{ℕ, zero, suc, _+_, _-_, _*_}
 use mathlib.Core.Bool.{Bool, true, false}
 use mathlib.Core.List.{List, [], _∷_, _++_}
 use lib.ListN.{replicate}
 use Rattle.registers.specs.Choose.{pick}
+use Rattle.registers.specs.Time.{slots}
+use Rattle.registers.specs.declared.time.Slots.{Slots}
 use Rattle.registers.specs.declared.settings.Format.{Format}
 use Rattle.registers.specs.declared.settings.Format.the-variants.{Motorola, Ti, Microwire, Reserved}
 use Rattle.registers.specs.declared.settings.Settings.{Settings}
@@ -21,9 +23,9 @@ totalOn Microwire phase b n = n * (2 * b + 18) + 3
 totalOn Reserved phase b n = 0
 
 -- None for no words.
-unfoldable pub slotTotal : Settings → ℕ → ℕ
-slotTotal s zero = 0
-slotTotal s (suc n) = totalOn (s .format) (s .phase) (s .bits) (suc n)
+unfoldable pub slotTotal : Settings → ℕ → Slots
+slotTotal s zero = slots 0
+slotTotal s (suc n) = slots (totalOn (s .format) (s .phase) (s .bits) (suc n))
 
 -- Lines in a frame, FSS and nSSPOE LOW. The clock is the logical one, before SPO.
 abbrev pub low : Settings → Bool → Bool → Lines
@@ -58,7 +60,7 @@ abbrev pub frames1 : Settings → List ℕ → List Lines
 frames1 s [] = []
 frames1 s (w ∷ ws) = low s false false ∷ chain1 s w ws
 
--- TI's slots 0 and 1 of a first word, and of a word joined to the one before, whose last bit is still on TXD.
+-- TI's slots 0 and 1 of a first word, and of a word joined to the one before, whose last bit is noWord on TXD.
 abbrev pub marked : Bool → Lines
 marked clk = record { clk = clk; fss = true; txd = false; released = true }
 
@@ -110,8 +112,3 @@ drawing s ws = drawingOn (s .format) (s .phase) s ws
 abbrev pub stretch : ℕ → List Lines → List Lines
 stretch h [] = []
 stretch h (l ∷ ls) = replicate h l ++ stretch h ls
-
--- The lines of each cycle, one cycle for each input.
-abbrev pub recording : DeviceModel → List Pins → List Lines
-recording d [] = []
-recording d (p ∷ ps) = cycleOf d p .lines ∷ recording (cycleOf d p) ps

@@ -16,18 +16,18 @@ clearShift = record { captured = 0; level = false; sending = 0; receiving = 0 }
 
 -- No frame, no selection, no mark; slot, cycle and bit counts zero.
 abbrev pub cleared : Engine
-cleared = record { slot = slots 0; gone = cycles 0; frame = false; selected = false; mark = false; shift = clearShift }
+cleared = record { slot = slots 0; elapsed = cycles 0; frame = false; selected = false; mark = false; shift = clearShift }
 
 -- The engine with one part replaced.
 
 abbrev pub withShift : Engine → Shift → Engine
-withShift e x = record { slot = e .slot; gone = e .gone; frame = e .frame; selected = e .selected; mark = e .mark; shift = x }
+withShift e x = record { slot = e .slot; elapsed = e .elapsed; frame = e .frame; selected = e .selected; mark = e .mark; shift = x }
 
 abbrev pub withFrame : Engine → Bool → Shift → Engine
-withFrame e f x = record { slot = e .slot; gone = e .gone; frame = f; selected = e .selected; mark = e .mark; shift = x }
+withFrame e f x = record { slot = e .slot; elapsed = e .elapsed; frame = f; selected = e .selected; mark = e .mark; shift = x }
 
-abbrev pub withSlot : Engine → ℕ → Engine
-withSlot e n = record { slot = slots n; gone = e .gone; frame = e .frame; selected = e .selected; mark = e .mark; shift = e .shift }
+abbrev pub withSlot : Engine → Slots → Engine
+withSlot e n = record { slot = n; elapsed = e .elapsed; frame = e .frame; selected = e .selected; mark = e .mark; shift = e .shift }
 
 -- A word is taken; nothing of it is on TXD yet.
 abbrev pub loaded : ℕ → Shift
@@ -58,8 +58,8 @@ completes b x = eqb (x .captured + 1) b
 
 -- What a step leaves: the engine, whether it took the next word to send, and the word that it completed, if any.
 
-abbrev pub still : Engine → Step
-still e = record { engine = e; takes = false; complete = false; word = 0 }
+abbrev pub noWord : Engine → Step
+noWord e = record { engine = e; takes = false; complete = false; word = 0 }
 
 -- The next word to send is taken, and a frame is in progress.
 abbrev pub begun : Engine → Shift → Step

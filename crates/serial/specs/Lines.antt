@@ -46,7 +46,7 @@ frameLines s v level = record { clk = clockOn (s .format) (s .polarity) (v .clk)
 unfoldable pub masterLines : Settings → Engine → Lines
 masterLines s e =
     pick (e .frame)
-    (frameLines s (levelsOf s (not (eqb (e .shift .captured) 0)) (e .slot .0)) (e .shift .level))
+    (frameLines s (levelsOf s (not (eqb (e .shift .captured) 0)) (e .slot)) (e .shift .level))
     (idleOn (s .format) (s .polarity))
 
 -- A slave shows its data level while selected, in TI while in a word.
@@ -63,7 +63,7 @@ slaveLines s e =
       clk = false;
       fss = true;
       txd = showsOn (s .format) e && e .shift .level;
-      released = not (showsOn (s .format) e && not (s .silent));
+      released = not (showsOn (s .format) e && not (s .sod));
     }
 
 unfoldable pub linesOf : Settings → Engine → Lines

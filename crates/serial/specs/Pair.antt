@@ -20,9 +20,9 @@ pairCycle p =
     record { first = cycleOf (p .first) (wire (p .second .lines)); second = cycleOf (p .second) (wire (p .first .lines)) }
 
 -- After so many cycles.
-abbrev pub later : ℕ → PairModel → PairModel
-later zero p = p
-later (suc n) p = later n (pairCycle p)
+abbrev pub pairRun : ℕ → PairModel → PairModel
+pairRun zero p = p
+pairRun (suc n) p = pairRun n (pairCycle p)
 
 -- Two devices of the code as the definitions see them.
 unfoldable pub pairOf : Wired → PairModel

@@ -2,12 +2,14 @@
 use Prim.{Unit}
 use Prim.Native.Nat.{ℕ, zero, suc, _/_, _%_, _^_}
 use mathlib.Core.Path.{_≡_}
-use mathlib.Core.List.{List, [], _∷_}
+use mathlib.Core.List.{List, [], _∷_, map}
+use lib.ListN.{replicate}
 use Rattle.registers.specs.Refusals.{done}
 use Rattle.registers.specs.declared.access.Answer.{Answer}
 use Rattle.registers.specs.declared.access.Answer.the-variants.{Word, Refused}
 use Rattle.serial.specs.Lines.{pinsOf, byteOf}
-use Rattle.serial.specs.Cycle.{DeviceModel, resetDevice, cycleOf}
+use Rattle.serial.specs.declared.lines.Pins.{Pins}
+use Rattle.serial.specs.Cycle.{DeviceModel, resetDevice, after, recording}
 use Rattle.serial.specs.Access.{readAnswerOf, readDevice, writeRefusalOf, writeDevice}
 
 -- What a row is made of ------------------------------------------------------------------------------------------------
@@ -31,7 +33,7 @@ pub data Row : Type 0 where
 pub data Outcome : Type 0 where
   refusal : ℕ → Outcome
   answer : Answer → Outcome
-  recording : List ℕ → Outcome
+  lines : List ℕ → Outcome
 
 -- What it means that a row holds ---------------------------------------------------------------------------------------
 
@@ -40,36 +42,30 @@ unfoldable pub digits : ℕ → ℕ → List ℕ
 digits zero x = []
 digits (suc n) x = x / 16 ^ n % 16 ∷ digits n x
 
--- The device after n cycles with the same input byte.
-unfoldable pub cyclesLater : ℕ → ℕ → DeviceModel → DeviceModel
-cyclesLater p zero d = d
-cyclesLater p (suc n) d = cyclesLater p n (cycleOf d (pinsOf p))
-
--- The output bytes of n cycles with the same input byte.
-unfoldable pub linesAlong : ℕ → ℕ → DeviceModel → List ℕ
-linesAlong p zero d = []
-linesAlong p (suc n) d = byteOf (cycleOf d (pinsOf p) .lines) ∷ linesAlong p n (cycleOf d (pinsOf p))
+-- n cycles with the same input byte.
+abbrev pub same : ℕ → ℕ → List Pins
+same p n = replicate n (pinsOf p)
 
 -- The device after a step.
 unfoldable pub afterStep : DeviceModel → Step → DeviceModel
 afterStep d (Write o v n) = writeDevice d o v
 afterStep d (Read o a) = readDevice d o
-afterStep d (Run p n x) = cyclesLater p n d
-afterStep d (Pass p n) = cyclesLater p n d
+afterStep d (Run p n x) = after d (same p n)
+afterStep d (Pass p n) = after d (same p n)
 
 -- What the definitions give at a step.
 unfoldable pub given : DeviceModel → Step → Outcome
 given d (Write o v n) = refusal (writeRefusalOf d o v)
 given d (Read o a) = answer (readAnswerOf d o)
-given d (Run p n x) = recording (linesAlong p n d)
-given d (Pass p n) = recording []
+given d (Run p n x) = lines (map byteOf (recording d (same p n)))
+given d (Pass p n) = lines []
 
 -- What the row expects of a step.
 unfoldable pub expected : Step → Outcome
 expected (Write o v n) = refusal n
 expected (Read o a) = answer a
-expected (Run p n x) = recording (digits n x)
-expected (Pass p n) = recording []
+expected (Run p n x) = lines (digits n x)
+expected (Pass p n) = lines []
 
 -- What the definitions give at each of the steps, one after another.
 unfoldable pub givenAll : DeviceModel → List Step → List Outcome

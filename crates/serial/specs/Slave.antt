@@ -6,7 +6,7 @@ use Rattle.registers.specs.Choose.{pick}
 use Rattle.registers.specs.declared.settings.Format.{Format}
 use Rattle.registers.specs.declared.settings.Format.the-variants.{Motorola, Ti, Microwire, Reserved}
 use Rattle.registers.specs.declared.settings.Settings.{Settings}
-use Rattle.serial.specs.Engine.{clearShift, cleared, withShift, withFrame, started, driven, still, begun, captureStep}
+use Rattle.serial.specs.Engine.{clearShift, cleared, withShift, withFrame, started, driven, noWord, begun, captureStep}
 use Rattle.serial.specs.Lines.{differ}
 use Rattle.serial.specs.Master.{dataBit}
 use Rattle.serial.specs.declared.engine.Engine.{Engine}
@@ -17,12 +17,12 @@ use Rattle.serial.specs.declared.lines.Pins.{Pins}
 
 -- The engine selected by a FSS fall.
 abbrev pub selectedOf : Engine → Engine
-selectedOf e = record { slot = e .slot; gone = e .gone; frame = false; selected = true; mark = e .mark; shift = clearShift }
+selectedOf e = record { slot = e .slot; elapsed = e .elapsed; frame = false; selected = true; mark = e .mark; shift = clearShift }
 
 -- A FSS fall selects; with SPH 0 the next word to send, zeros if there is none, is taken then and its first bit driven.
 unfoldable pub motorolaSelect : Settings → Engine → Bool → ℕ → Step
 motorolaSelect s e fell next =
-    pick fell (pick (s .phase) (still (selectedOf e)) (begun (selectedOf e) (started (s .bits) next))) (still e)
+    pick fell (pick (s .phase) (noWord (selectedOf e)) (begun (selectedOf e) (started (s .bits) next))) (noWord e)
 
 -- The clock edge to the active level, and the one back.
 abbrev pub toActive : Settings → Pins → Pins → Bool
@@ -42,9 +42,9 @@ driveEdge s before seen = pick (s .phase) (toActive s before seen) (toIdle s bef
 unfoldable pub motorolaClock : Settings → Engine → Bool → Bool → ℕ → Bool → Step
 motorolaClock s e captures drives next bit =
     pick (e .frame && captures) (captureStep (s .bits) bit e)
-    (pick (e .frame && drives) (still (withShift e (driven (s .bits) (e .shift .captured) (e .shift))))
+    (pick (e .frame && drives) (noWord (withShift e (driven (s .bits) (e .shift .captured) (e .shift))))
     (pick (drives && s .phase) (begun e (started (s .bits) next))
-    (still e)))
+    (noWord e)))
 
 -- Two steps of one cycle, of which the first completes no word.
 abbrev pub afterTaking : Bool → Step → Step
@@ -60,35 +60,35 @@ motorolaEdges s r before seen next =
 -- FSS HIGH deselects and drops a part word; FSS comes before CLK.
 unfoldable pub motorolaSlave : Settings → Engine → Pins → Pins → ℕ → Step
 motorolaSlave s e before seen next =
-    pick (seen .fss) (still cleared)
+    pick (seen .fss) (noWord cleared)
     (motorolaEdges s (motorolaSelect s e (before .fss) next) before seen next)
 
 -- TI -------------------------------------------------------------------------------------------------------------------
 
 abbrev pub withMark : Engine → Bool → Engine
-withMark e m = record { slot = e .slot; gone = e .gone; frame = e .frame; selected = e .selected; mark = m; shift = e .shift }
+withMark e m = record { slot = e .slot; elapsed = e .elapsed; frame = e .frame; selected = e .selected; mark = m; shift = e .shift }
 
 -- A falling edge in a word captures a bit. With FSS HIGH it marks a start; before the last bit it drops the part word.
 unfoldable pub tiFalls : Settings → Engine → Bool → Bool → Step
 tiFalls s e fss bit =
     pick (e .frame)
     (pick (fss && ltb (e .shift .captured + 1) (s .bits))
-    (still (withMark (withFrame e false clearShift) true))
+    (noWord (withMark (withFrame e false clearShift) true))
     (captureStep (s .bits) bit (withMark e (e .mark || fss))))
-    (still (withMark e (e .mark || fss)))
+    (noWord (withMark e (e .mark || fss)))
 
 -- A rising edge after a mark takes the next word and drives its first bit; in a word it drives bit c.
 unfoldable pub tiRises : Settings → Engine → ℕ → Step
 tiRises s e next =
     pick (e .mark) (begun (withMark e false) (started (s .bits) next))
-    (pick (e .frame) (still (withShift e (driven (s .bits) (e .shift .captured) (e .shift))))
-    (still e))
+    (pick (e .frame) (noWord (withShift e (driven (s .bits) (e .shift .captured) (e .shift))))
+    (noWord e))
 
 unfoldable pub tiSlave : Settings → Engine → Pins → Pins → ℕ → Step
 tiSlave s e before seen next =
     pick (before .clk && not (seen .clk)) (tiFalls s e (seen .fss) (dataBit s e (seen .rxd)))
     (pick (not (before .clk) && seen .clk) (tiRises s e next)
-    (still e))
+    (noWord e))
 
 -- Both -----------------------------------------------------------------------------------------------------------------
 
@@ -96,8 +96,8 @@ tiSlave s e before seen next =
 abbrev pub slaveOn : Format → Settings → Engine → Pins → Pins → ℕ → Step
 slaveOn Motorola s e before seen next = motorolaSlave s e before seen next
 slaveOn Ti s e before seen next = tiSlave s e before seen next
-slaveOn Microwire s e before seen next = still cleared
-slaveOn Reserved s e before seen next = still cleared
+slaveOn Microwire s e before seen next = noWord cleared
+slaveOn Reserved s e before seen next = noWord cleared
 
 -- The engine after the cycle's edges, as its lines show it.
 unfoldable pub slaveStep : Settings → Engine → Pins → Pins → ℕ → Step

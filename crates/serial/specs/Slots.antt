@@ -3,6 +3,8 @@ use Prim.Native.Nat.{ℕ, _+_, _-_, _*_, _/_, _%_}
 use mathlib.Core.Bool.{Bool, true, false, not, _&&_}
 use lib.Dec.{ltb, leb, eqb}
 use Rattle.registers.specs.Choose.{pick}
+use Rattle.registers.specs.Time.{slots}
+use Rattle.registers.specs.declared.time.Slots.{Slots}
 use Rattle.registers.specs.declared.settings.Format.{Format}
 use Rattle.registers.specs.declared.settings.Format.the-variants.{Motorola, Ti, Microwire, Reserved}
 use Rattle.registers.specs.declared.settings.Settings.{Settings}
@@ -17,7 +19,7 @@ unfoldable pub motorolaEvent : Bool → ℕ → ℕ → Event
 motorolaEvent phase b n =
     pick (eqb n 0) Begin
     (pick (leb n (2 * b)) (pick (eqb (n % 2) 1) (Drive (n / 2)) Capture)
-    (pick (eqb n (2 * b + 1)) (pick phase (Chain 1) Pause)
+    (pick (eqb n (2 * b + 1)) (pick phase (Chain (slots 1)) Pause)
     (pick (eqb n (2 * b + 2)) Release Pause)))
 
 -- TI. 0: word taken. 2 + 2i: bit i on TXD. 3 + 2i: bit i captured.
@@ -38,7 +40,7 @@ microwireEvent b n =
     (pick (ltb n 16) (pick (eqb (n % 2) 0) (Drive (n / 2)) Pause)
     (pick (eqb n 16) Quiet
     (pick (ltb n (18 + 2 * b)) (pick (leb 19 n && eqb (n % 2) 1) Capture Pause)
-    (pick (eqb n (18 + 2 * b)) (Chain 0)
+    (pick (eqb n (18 + 2 * b)) (Chain (slots 0))
     (pick (eqb n (19 + 2 * b)) Release Pause)))))
 
 abbrev pub eventOn : Format → Bool → ℕ → ℕ → Event
@@ -48,8 +50,8 @@ eventOn Microwire phase b n = microwireEvent b n
 eventOn Reserved phase b n = Pause
 
 -- What happens in the first cycle of slot n.
-unfoldable pub eventOf : Settings → ℕ → Event
-eventOf s n = eventOn (s .format) (s .phase) (s .bits) n
+unfoldable pub eventOf : Settings → Slots → Event
+eventOf s n = eventOn (s .format) (s .phase) (s .bits) (n .0)
 
 -- The last slot, idle ones included.
 abbrev pub lastOn : Format → ℕ → ℕ
@@ -58,8 +60,8 @@ lastOn Ti b = 2 * b + 1
 lastOn Microwire b = 2 * b + 20
 lastOn Reserved b = 0
 
-unfoldable pub lastSlot : Settings → ℕ
-lastSlot s = lastOn (s .format) (s .bits)
+unfoldable pub lastSlot : Settings → Slots
+lastSlot s = slots (lastOn (s .format) (s .bits))
 
 -- Words go out most significant of b bits first; Microwire: of the low 8.
 abbrev pub widthOn : Format → ℕ → ℕ
@@ -80,7 +82,7 @@ motorolaLevels phase b n =
       released = false;
     }
 
--- TI: CLK is HIGH at even slots; FSS is HIGH in 0 and 1, and so is nSSPOE unless the old word's last bit is still on TXD there.
+-- TI: CLK is HIGH at even slots; FSS is HIGH in 0 and 1, and so is nSSPOE unless the old word's last bit is noWord on TXD there.
 unfoldable pub tiLevels : Bool → ℕ → Levels
 tiLevels joined n = record { clk = eqb (n % 2) 0; fss = ltb n 2; released = ltb n 2 && not joined }
 
@@ -95,5 +97,5 @@ levelsOn Microwire phase b joined n = microwireLevels n
 levelsOn Reserved phase b joined n = record { clk = false; fss = true; released = true }
 
 -- The levels of slot n in a frame; the clock is the logical one, before SPO.
-unfoldable pub levelsOf : Settings → Bool → ℕ → Levels
-levelsOf s joined n = levelsOn (s .format) (s .phase) (s .bits) joined n
+unfoldable pub levelsOf : Settings → Bool → Slots → Levels
+levelsOf s joined n = levelsOn (s .format) (s .phase) (s .bits) joined (n .0)

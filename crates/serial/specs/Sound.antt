@@ -14,11 +14,11 @@ use Rattle.serial.specs.declared.engine.Engine.{Engine}
 unfoldable pub stoppedSound : Engine → Bool
 stoppedSound e =
     ((not (e .frame) && not (e .selected)) && not (e .mark))
-    && ((eqb (e .slot .0) 0 && eqb (e .gone .0) 0) && eqb (e .shift .captured) 0)
+    && ((eqb (e .slot .0) 0 && eqb (e .elapsed .0) 0) && eqb (e .shift .captured) 0)
 
 -- With SSE set: slot number at most the format's last, cycles gone in the slot below h, captured bits at most b.
 unfoldable pub runningSound : Settings → Engine → Bool
-runningSound s e = (leb (e .slot .0) (lastSlot s) && ltb (e .gone .0) (s .half)) && leb (e .shift .captured) (s .bits)
+runningSound s e = (leb (e .slot .0) (lastSlot s .0) && ltb (e .elapsed .0) (s .divisor .0)) && leb (e .shift .captured) (s .bits)
 
 unfoldable pub engineSound : Settings → Engine → Bool
 engineSound s e = pick (s .enabled) (runningSound s e) (stoppedSound e)
@@ -30,5 +30,5 @@ soundDevice d = soundRegisters (d .registers) && engineSound (settingsOf (d .reg
 unfoldable pub deviceFits : DeviceModel → Bool
 deviceFits d =
     registersFit (d .registers)
-    && (((ltb (d .engine .slot .0) 0x100 && ltb (d .engine .gone .0) 0x10000) && ltb (d .engine .shift .captured) 0x100)
+    && (((ltb (d .engine .slot .0) 0x100 && ltb (d .engine .elapsed .0) 0x10000) && ltb (d .engine .shift .captured) 0x100)
     && (ltb (d .engine .shift .sending) 0x10000 && ltb (d .engine .shift .receiving) 0x10000))

@@ -1,7 +1,7 @@
 // Register accesses to a device. They fall between cycles: pins and lines stay.
 ghost use mathlib.Core.Path.{_≡_};
 ghost use Rattle.serial.specs.Cycle.{deviceOf};
-ghost use Rattle.serial.specs.Access.{ReadAs, WrittenAs};
+ghost use Rattle.serial.specs.Access.{Read, Write};
 use crate::Device;
 use registers::access::Answer;
 
@@ -17,7 +17,7 @@ pub struct Written {
 
 // A register read.
 pub fn read(d: Device, offset: u32) -> Reading
-    ensures { λ r. ⌜ ReadAs (deviceOf d) offset r ⌝ }
+    ensures { λ r. ⌜ Read (deviceOf d) offset r ⌝ }
 {
     let out = registers::access::read(d.registers, offset, d.engine.frame);
     let registers = out.registers;
@@ -29,7 +29,7 @@ pub fn read(d: Device, offset: u32) -> Reading
 
 // A register write; clearing SSE clears the engine.
 pub fn write(d: Device, offset: u32, value: u32) -> Written
-    ensures { λ r. ⌜ WrittenAs (deviceOf d) offset value r ⌝ }
+    ensures { λ r. ⌜ Write (deviceOf d) offset value r ⌝ }
 {
     let was = registers::settings::enabled(d.registers);
     let out = registers::access::write(d.registers, offset, value);

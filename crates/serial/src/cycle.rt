@@ -1,7 +1,7 @@
 // One cycle of a device.
 ghost use mathlib.Core.Path.{_≡_};
 ghost use Rattle.registers.specs.Model.{modelOf};
-ghost use Rattle.serial.specs.Cycle.{deviceOf, stepOf, endOf, takenModel, completeModel, cycleOf};
+ghost use Rattle.serial.specs.Cycle.{deviceOf, stepOf, endOf, takeIf, receiveIf, cycleOf};
 use crate::Device;
 use crate::History;
 use crate::engine::Engine;
@@ -23,7 +23,7 @@ fn step_of(s: Settings, e: Engine, h: History, pins: Pins, waiting: bool, next: 
         }
         return crate::master::master_step(s, e, waiting, next, pins.rxd);
     }
-    crate::engine::still(crate::engine::cleared())
+    crate::engine::no_word(crate::engine::cleared())
 }
 
 fn end_of(s: Settings, e: Engine) -> Engine
@@ -37,42 +37,42 @@ fn end_of(s: Settings, e: Engine) -> Engine
     }
 }
 
-fn sent(r: Registers, takes: bool) -> Registers
-    ensures { λ n. ⌜ modelOf n ≡ takenModel (modelOf r) takes ⌝ }
+fn take_if(r: Registers, takes: bool) -> Registers
+    ensures { λ n. ⌜ modelOf n ≡ takeIf (modelOf r) takes ⌝ }
 {
     if takes {
-        registers::transfer::word_taken(r)
+        registers::transfer::take_word(r)
     } else {
         r
     }
 }
 
-fn received(r: Registers, complete: bool, word: u16) -> Registers
-    ensures { λ n. ⌜ modelOf n ≡ completeModel (modelOf r) complete word ⌝ }
+fn receive_if(r: Registers, complete: bool, word: u16) -> Registers
+    ensures { λ n. ⌜ modelOf n ≡ receiveIf (modelOf r) complete word ⌝ }
 {
     if complete {
-        registers::transfer::receive(r, word)
+        registers::transfer::receive_word(r, word)
     } else {
         r
     }
 }
 
 // One cycle: the engine's step, the queues, the timeout, the pins, the lines.
-pub fn cycle(d: Device, pins: Pins) -> Device
+pub fn cycle_of(d: Device, pins: Pins) -> Device
     ensures { λ n. ⌜ deviceOf n ≡ cycleOf (deviceOf d) pins ⌝ }
 {
     let r = d.registers;
     let e = d.engine;
     let h = d.pins;
     let s = registers::settings::settings_of(r);
-    let waiting = registers::transfer::waiting(r);
+    let waiting = registers::transfer::waiting_of(r);
     let next = registers::transfer::next_word(r);
     let step = step_of(s, e, h, pins, waiting, next);
     let shown = step.engine;
     let lines = crate::lines::lines_of(s, shown);
     let after = end_of(s, shown);
-    let without = sent(r, step.takes);
-    let with = received(without, step.complete, step.word);
+    let without = take_if(r, step.takes);
+    let with = receive_if(without, step.complete, step.word);
     let ended = registers::transfer::end_cycle(with, after.frame);
     let newest = h.newest;
     let middle = h.middle;

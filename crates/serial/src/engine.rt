@@ -1,6 +1,6 @@
 // The engine's state, and the steps of its shift registers.
 ghost use mathlib.Core.Path.{_≡_};
-ghost use Rattle.serial.specs.Engine.{clearShift, cleared, withShift, withFrame, withSlot, loaded, started, driven, quieted, capturedOf, completes, still, begun, captureStep};
+ghost use Rattle.serial.specs.Engine.{clearShift, cleared, withShift, withFrame, withSlot, loaded, started, driven, quieted, capturedOf, completes, noWord, begun, captureStep};
 use registers::time::Cycles;
 use registers::time::Slots;
 
@@ -17,7 +17,7 @@ pub struct Shift {
 // Wide fields first, so that a copy has no gap to carry.
 pub struct Engine {
     // the cycles that have gone of a master's slot
-    pub gone: Cycles,
+    pub elapsed: Cycles,
     pub slot: Slots,
     pub shift: Shift,
     // a frame is in progress
@@ -54,7 +54,7 @@ pub fn cleared() -> Engine
 {
     Engine {
         slot: Slots(0),
-        gone: Cycles(0),
+        elapsed: Cycles(0),
         frame: false,
         selected: false,
         mark: false,
@@ -79,12 +79,11 @@ pub fn with_frame(e: Engine, frame: bool, shift: Shift) -> Engine
     next
 }
 
-pub fn with_slot(e: Engine, slot: u16) -> Engine
+pub fn with_slot(e: Engine, slot: Slots) -> Engine
     ensures { λ r. ⌜ r ≡ withSlot e slot ⌝ }
 {
-    let place = Slots(slot);
     let mut next = e;
-    next.slot = place;
+    next.slot = slot;
     next
 }
 
@@ -157,8 +156,8 @@ pub fn completes(bits: u8, shift: Shift) -> bool
 }
 
 // A step that changes nothing else.
-pub fn still(e: Engine) -> Step
-    ensures { λ r. ⌜ r ≡ still e ⌝ }
+pub fn no_word(e: Engine) -> Step
+    ensures { λ r. ⌜ r ≡ noWord e ⌝ }
 {
     Step {
         engine: e,

@@ -36,7 +36,7 @@ pub struct Device {
 }
 
 // A device as after reset.
-pub fn reset() -> Device
+pub fn reset_device() -> Device
     ensures { λ d. ⌜ deviceOf d ≡ resetDevice ⌝ }
 {
     let low = Pins {
@@ -45,7 +45,7 @@ pub fn reset() -> Device
         rxd: false,
     };
     Device {
-        registers: registers::reset(),
+        registers: registers::reset_registers(),
         engine: crate::engine::cleared(),
         pins: History {
             newest: low,

@@ -116,7 +116,7 @@ fn master_lines(s: Settings, e: Engine) -> Lines
 {
     let frame = e.frame;
     if frame {
-        let v = crate::slots::levels_of(s, e.shift.captured != 0, e.slot.0);
+        let v = crate::slots::levels_of(s, e.shift.captured != 0, e.slot);
         return frame_lines(s, v, e.shift.level);
     }
     let f = s.format;
@@ -143,7 +143,7 @@ fn slave_lines(s: Settings, e: Engine) -> Lines
         clk: false,
         fss: true,
         txd: shows & e.shift.level,
-        released: !(shows & !s.silent),
+        released: !(shows & !s.sod),
     }
 }
 

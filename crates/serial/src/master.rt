@@ -22,15 +22,15 @@ fn joined_shift(width: u16, i: u16, next: u16, shift: Shift) -> Shift
     }
 }
 
-fn drive(s: Settings, e: Engine, i: u16) -> Step
+fn drive_step(s: Settings, e: Engine, i: u16) -> Step
     ensures { λ r. ⌜ r ≡ driveStep s e i ⌝ }
 {
     let width = crate::slots::width_of(s);
     let shift = e.shift;
-    crate::engine::still(crate::engine::with_shift(e, crate::engine::driven(width, i, shift)))
+    crate::engine::no_word(crate::engine::with_shift(e, crate::engine::driven(width, i, shift)))
 }
 
-fn chain(s: Settings, e: Engine, waiting: bool, next: u16, slot: u16) -> Step
+fn chain_step(s: Settings, e: Engine, waiting: bool, next: u16, slot: Slots) -> Step
     ensures { λ r. ⌜ r ≡ chainStep s e waiting next slot ⌝ }
 {
     if waiting {
@@ -40,18 +40,18 @@ fn chain(s: Settings, e: Engine, waiting: bool, next: u16, slot: u16) -> Step
             crate::engine::started(width, next),
         );
     }
-    crate::engine::still(e)
+    crate::engine::no_word(e)
 }
 
-fn join_drive(s: Settings, e: Engine, waiting: bool, next: u16, i: u16) -> Step
+fn join_step(s: Settings, e: Engine, waiting: bool, next: u16, i: u16) -> Step
     ensures { λ r. ⌜ r ≡ joinStep s e waiting next i ⌝ }
 {
     if waiting {
         let width = crate::slots::width_of(s);
         let shift = joined_shift(width, i, next, e.shift);
-        return crate::engine::begun(crate::engine::with_slot(e, 0), shift);
+        return crate::engine::begun(crate::engine::with_slot(e, Slots(0)), shift);
     }
-    drive(s, e, i)
+    drive_step(s, e, i)
 }
 
 fn join_capture(s: Settings, e: Engine, bit: bool) -> Step
@@ -59,7 +59,7 @@ fn join_capture(s: Settings, e: Engine, bit: bool) -> Step
 {
     let alone = e.shift.captured == 0;
     if alone {
-        return crate::engine::still(e);
+        return crate::engine::no_word(e);
     }
     crate::engine::capture_step(s.bits, bit, e)
 }
@@ -75,25 +75,25 @@ pub fn act(s: Settings, e: Engine, waiting: bool, next: u16, bit: bool, event: E
             e,
             crate::engine::started(crate::slots::width_of(s), next),
         ),
-        Event::Drive(i) => drive(s, e, i),
-        Event::First => crate::engine::still(crate::engine::with_shift(
+        Event::Drive(i) => drive_step(s, e, i),
+        Event::First => crate::engine::no_word(crate::engine::with_shift(
             e,
             crate::engine::started(crate::slots::width_of(s), shift.sending),
         )),
         Event::Capture => crate::engine::capture_step(s.bits, bit, e),
-        Event::Chain(n) => chain(s, e, waiting, next, n),
-        Event::JoinDrive(i) => join_drive(s, e, waiting, next, i),
+        Event::Chain(n) => chain_step(s, e, waiting, next, n),
+        Event::JoinDrive(i) => join_step(s, e, waiting, next, i),
         Event::JoinCapture => join_capture(s, e, bit),
-        Event::Quiet => crate::engine::still(crate::engine::with_shift(
+        Event::Quiet => crate::engine::no_word(crate::engine::with_shift(
             e,
             crate::engine::quieted(shift),
         )),
-        Event::Release => crate::engine::still(crate::engine::with_frame(
+        Event::Release => crate::engine::no_word(crate::engine::with_frame(
             e,
             false,
             crate::engine::clear_shift(),
         )),
-        Event::Pause => crate::engine::still(e),
+        Event::Pause => crate::engine::no_word(e),
     }
 }
 
@@ -101,14 +101,14 @@ pub fn act(s: Settings, e: Engine, waiting: bool, next: u16, bit: bool, event: E
 pub fn resting(e: Engine) -> bool
     ensures { λ r. ⌜ r ≡ resting e ⌝ }
 {
-    (!e.frame & (e.slot.0 == 0)) & (e.gone.0 == 0)
+    (!e.frame & (e.slot.0 == 0)) & (e.elapsed.0 == 0)
 }
 
 fn acting(e: Engine, waiting: bool) -> bool
     ensures { λ r. ⌜ r ≡ acting e waiting ⌝ }
 {
     let rests = resting(e);
-    (e.frame & (e.gone.0 == 0)) | (rests & waiting)
+    (e.frame & (e.elapsed.0 == 0)) | (rests & waiting)
 }
 
 // The level that a capture takes: in loopback the device's own TXD.
@@ -125,34 +125,34 @@ pub fn master_step(s: Settings, e: Engine, waiting: bool, next: u16, rxd: bool) 
 {
     let acts = acting(e, waiting);
     if acts {
-        let event = crate::slots::event_of(s, e.slot.0);
+        let event = crate::slots::event_of(s, e.slot);
         let bit = data_bit(s, e, rxd);
         return act(s, e, waiting, next, bit, event);
     }
-    crate::engine::still(e)
+    crate::engine::no_word(e)
 }
 
 // One cycle of the slot has gone.
 fn ticked(s: Settings, e: Engine) -> Engine
     ensures { λ r. ⌜ r ≡ ticked s e ⌝ }
 {
-    let gone = e.gone.0 as u64 + 1;
-    let within = gone < s.half as u64;
+    let elapsed = e.elapsed.0 as u64 + 1;
+    let within = elapsed < s.divisor.0 as u64;
     if within {
-        let later = Cycles((gone % 0x1_0000_0000) as u32);
+        let later = Cycles((elapsed % 0x1_0000_0000) as u32);
         let mut next = e;
-        next.gone = later;
+        next.elapsed = later;
         return next;
     }
     let slot = e.slot.0;
-    let last = crate::slots::last_slot(s);
+    let last = crate::slots::last_slot(s).0;
     let more = slot < last;
     if more {
         let following = Slots(((slot as u32 + 1) % 0x10000) as u16);
         let none = Cycles(0);
         let mut next = e;
         next.slot = following;
-        next.gone = none;
+        next.elapsed = none;
         return next;
     }
     crate::engine::cleared()

@@ -1,7 +1,7 @@
 // Two devices wired together.
 ghost use mathlib.Core.Path.{_≡_};
 ghost use Rattle.serial.specs.Cycle.{deviceOf};
-ghost use Rattle.serial.specs.Pair.{wire, pairOf, pairCycle, later};
+ghost use Rattle.serial.specs.Pair.{wire, pairOf, pairCycle, pairRun};
 use crate::Device;
 use crate::lines::Lines;
 use crate::lines::Pins;
@@ -30,14 +30,14 @@ pub fn pair_cycle(p: Wired) -> Wired
     let two = p.second;
     let to_two = wire(one.lines);
     let to_one = wire(two.lines);
-    let first = crate::cycle::cycle(one, to_one);
-    let second = crate::cycle::cycle(two, to_two);
+    let first = crate::cycle::cycle_of(one, to_one);
+    let second = crate::cycle::cycle_of(two, to_two);
     Wired { first, second }
 }
 
 // So many cycles of the pair.
 pub fn pair_run(p: Wired, cycles: u64) -> Wired
-    ensures { λ r. ⌜ pairOf r ≡ later cycles (pairOf p) ⌝ }
+    ensures { λ r. ⌜ pairOf r ≡ pairRun cycles (pairOf p) ⌝ }
 {
     let mut d = p;
     let mut i: u64 = 0;

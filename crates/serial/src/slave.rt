@@ -26,11 +26,11 @@ fn motorola_select(s: Settings, e: Engine, fell: bool, next: u16) -> Step
     if fell {
         let chosen = selected_of(e);
         if phase {
-            return crate::engine::still(chosen);
+            return crate::engine::no_word(chosen);
         }
         return crate::engine::begun(chosen, crate::engine::started(s.bits as u16, next));
     }
-    crate::engine::still(e)
+    crate::engine::no_word(e)
 }
 
 fn to_active(s: Settings, before: Pins, seen: Pins) -> bool
@@ -91,12 +91,12 @@ fn motorola_clock(
     if driving {
         let shift = e.shift;
         let after = crate::engine::driven(s.bits as u16, shift.captured as u16, shift);
-        return crate::engine::still(crate::engine::with_shift(e, after));
+        return crate::engine::no_word(crate::engine::with_shift(e, after));
     }
     if taking {
         return crate::engine::begun(e, crate::engine::started(s.bits as u16, next));
     }
-    crate::engine::still(e)
+    crate::engine::no_word(e)
 }
 
 fn after_taking(took: bool, r: Step) -> Step
@@ -128,7 +128,7 @@ fn motorola_slave(s: Settings, e: Engine, before: Pins, seen: Pins, next: u16) -
 {
     let high = seen.fss;
     if high {
-        return crate::engine::still(crate::engine::cleared());
+        return crate::engine::no_word(crate::engine::cleared());
     }
     motorola_edges(
         s,
@@ -157,11 +157,11 @@ fn ti_falls(s: Settings, e: Engine, fss: bool, bit: bool) -> Step
     if frame {
         if early {
             let dropped = crate::engine::with_frame(e, false, crate::engine::clear_shift());
-            return crate::engine::still(with_mark(dropped, true));
+            return crate::engine::no_word(with_mark(dropped, true));
         }
         return crate::engine::capture_step(s.bits, bit, marked);
     }
-    crate::engine::still(marked)
+    crate::engine::no_word(marked)
 }
 
 // A rising edge after a mark takes the next word; in a word it drives the next bit.
@@ -177,9 +177,9 @@ fn ti_rises(s: Settings, e: Engine, next: u16) -> Step
     if frame {
         let shift = e.shift;
         let after = crate::engine::driven(s.bits as u16, shift.captured as u16, shift);
-        return crate::engine::still(crate::engine::with_shift(e, after));
+        return crate::engine::no_word(crate::engine::with_shift(e, after));
     }
-    crate::engine::still(e)
+    crate::engine::no_word(e)
 }
 
 fn ti_slave(s: Settings, e: Engine, before: Pins, seen: Pins, next: u16) -> Step
@@ -194,7 +194,7 @@ fn ti_slave(s: Settings, e: Engine, before: Pins, seen: Pins, next: u16) -> Step
     if rises {
         return ti_rises(s, e, next);
     }
-    crate::engine::still(e)
+    crate::engine::no_word(e)
 }
 
 // The engine after the cycle's edges, as its lines show it.
@@ -205,8 +205,8 @@ pub fn slave_step(s: Settings, e: Engine, before: Pins, seen: Pins, next: u16) -
     match f {
         Format::Motorola => motorola_slave(s, e, before, seen, next),
         Format::Ti => ti_slave(s, e, before, seen, next),
-        Format::Microwire => crate::engine::still(crate::engine::cleared()),
-        Format::Reserved => crate::engine::still(crate::engine::cleared()),
+        Format::Microwire => crate::engine::no_word(crate::engine::cleared()),
+        Format::Reserved => crate::engine::no_word(crate::engine::cleared()),
     }
 }
 

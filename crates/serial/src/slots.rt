@@ -4,6 +4,7 @@ ghost use Prim.Native.Nat.{_-_};
 ghost use Rattle.serial.specs.Slots.{motorolaEvent, tiEvent, microwireEvent, eventOf, lastSlot, widthOf, motorolaLevels, tiLevels, microwireLevels, levelsOf};
 use registers::settings::Format;
 use registers::settings::Settings;
+use registers::time::Slots;
 
 pub enum Event {
     // the word is taken
@@ -17,7 +18,7 @@ pub enum Event {
     // a bit is captured
     Capture,
     // a waiting word is taken, and this is its slot of that number
-    Chain(u16),
+    Chain(Slots),
     // bit i goes on TXD; a waiting word is taken, and this is its slot 0
     JoinDrive(u16),
     // the last capture of the word before, if this one is joined to it
@@ -56,7 +57,7 @@ fn motorola_event(phase: bool, b: u8, n: u16) -> Event
     }
     if last {
         if phase {
-            return Event::Chain(1);
+            return Event::Chain(Slots(1));
         }
         return Event::Pause;
     }
@@ -126,15 +127,16 @@ fn microwire_event(b: u8, n: u16) -> Event
         return Event::Pause;
     }
     if last {
-        return Event::Chain(0);
+        return Event::Chain(Slots(0));
     }
     if over { Event::Release } else { Event::Pause }
 }
 
 // What happens in the first cycle of slot n.
-pub fn event_of(s: Settings, n: u16) -> Event
-    ensures { λ r. ⌜ r ≡ eventOf s n ⌝ }
+pub fn event_of(s: Settings, slot: Slots) -> Event
+    ensures { λ r. ⌜ r ≡ eventOf s slot ⌝ }
 {
+    let n = slot.0;
     let f = s.format;
     match f {
         Format::Motorola => motorola_event(s.phase, s.bits, n),
@@ -145,16 +147,16 @@ pub fn event_of(s: Settings, n: u16) -> Event
 }
 
 // The last slot, idle ones included.
-pub fn last_slot(s: Settings) -> u16
+pub fn last_slot(s: Settings) -> Slots
     ensures { λ r. ⌜ r ≡ lastSlot s ⌝ }
 {
     let end = 2 * (s.bits as u16);
     let f = s.format;
     match f {
-        Format::Motorola => end + 3,
-        Format::Ti => end + 1,
-        Format::Microwire => end + 20,
-        Format::Reserved => 0,
+        Format::Motorola => Slots(end + 3),
+        Format::Ti => Slots(end + 1),
+        Format::Microwire => Slots(end + 20),
+        Format::Reserved => Slots(0),
     }
 }
 
@@ -212,9 +214,10 @@ fn microwire_levels(n: u16) -> Levels
 }
 
 // The levels of slot n in a frame.
-pub fn levels_of(s: Settings, joined: bool, n: u16) -> Levels
-    ensures { λ r. ⌜ r ≡ levelsOf s joined n ⌝ }
+pub fn levels_of(s: Settings, joined: bool, slot: Slots) -> Levels
+    ensures { λ r. ⌜ r ≡ levelsOf s joined slot ⌝ }
 {
+    let n = slot.0;
     let f = s.format;
     match f {
         Format::Motorola => motorola_levels(s.phase, s.bits, n),

@@ -11,15 +11,15 @@ fn stopped_sound(e: Engine) -> bool
     ensures { λ s. ⌜ s ≡ stoppedSound e ⌝ }
 {
     ((!e.frame & !e.selected) & !e.mark)
-        & (((e.slot.0 == 0) & (e.gone.0 == 0)) & (e.shift.captured == 0))
+        & (((e.slot.0 == 0) & (e.elapsed.0 == 0)) & (e.shift.captured == 0))
 }
 
 // With SSE set: slot number at most the last, cycles gone below h, captured bits at most b.
 fn running_sound(s: Settings, e: Engine) -> bool
     ensures { λ r. ⌜ r ≡ runningSound s e ⌝ }
 {
-    let last = crate::slots::last_slot(s);
-    ((e.slot.0 <= last) & (e.gone.0 < s.half as u32)) & (e.shift.captured <= s.bits)
+    let last = crate::slots::last_slot(s).0;
+    ((e.slot.0 <= last) & (e.elapsed.0 < s.divisor.0 as u32)) & (e.shift.captured <= s.bits)
 }
 
 fn engine_sound(s: Settings, e: Engine) -> bool

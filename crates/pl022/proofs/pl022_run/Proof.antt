@@ -3,8 +3,8 @@ use borrow.Author.Needs.{needs}
 use Rattle.pl022.proofs.pl022_run.Statement.{statement}
 use Rattle.pl022.proofs.pl022_run.Tie as tie
 
-run-requires : tie.Need-run-requires
-run-requires c κs = search needs
+run-call-requires : tie.Need-run-call-requires
+run-call-requires c κs = search needs
 
 cast-result : tie.Need-cast-result
 cast-result c = search needs
@@ -16,7 +16,7 @@ same-length-2 : tie.Need-same-length-2
 same-length-2 c = search needs
 
 returns : tie.Need-returns
-returns c = run-every _ _ _ _ _ _ (c .before .before .before .before .before .run .ensures)
+returns c = run-every _ _ _ _ _ _ (c .before .before .before .before .before .run-call .ensures)
 
 pub pl022-run-spec : {M : Type 1} → statement M
-pl022-run-spec = tie.close (tie.spec run-requires cast-result same-length same-length-2 returns)
+pl022-run-spec = tie.close (tie.spec run-call-requires cast-result same-length same-length-2 returns)

@@ -9,18 +9,18 @@ use borrow.Author.Tests.{eqb-true}
 use Rattle.registers.proofs.Picks.{pick-no, and-left, and-right, not-told}
 use Rattle.registers.specs.Settings.{enabledOf, settingsOf}
 use Rattle.registers.specs.Access.{writeModel}
-use Rattle.registers.proofs.Soundness.{enabled-told, control-tell, sound-told}
+use Rattle.registers.proofs.Soundness.{enabled-told, control-tell, sound-elim}
 use Rattle.registers.specs.declared.settings.Settings.{Settings}
 use Rattle.serial.specs.Bits.{cut}
 use Rattle.serial.specs.Slots.{widthOf}
 use Rattle.serial.specs.Lines.{byteOf}
-use Rattle.serial.specs.Cycle.{DeviceModel}
+use Rattle.serial.specs.Cycle.{DeviceModel, recording}
 use Rattle.serial.proofs.Inputs.{Masters}
 use Rattle.serial.specs.Access.{engineAfter, writeDevice}
 use Rattle.serial.specs.Sound.{stoppedSound, engineSound, soundDevice}
 use Rattle.serial.proofs.Soundness.{sound-registers, sound-engine, sound-write}
-use Rattle.serial.specs.Drawing.{slotTotal, recording}
-use Rattle.serial.proofs.Drawing.Recorded.{Fresh, load-bytes-told}
+use Rattle.serial.specs.Drawing.{slotTotal}
+use Rattle.serial.proofs.Drawing.Recorded.{Fresh, load-bytes-injective}
 use Rattle.serial.specs.declared.engine.Engine.{Engine}
 use Rattle.serial.specs.declared.lines.Pins.{Pins}
 use Rattle.serial.specs.Demand3.{Enabling, LastSentence}
@@ -29,30 +29,30 @@ use Rattle.serial.specs.Demand3.{Enabling, LastSentence}
 pub record Stopped (e : Engine) : Type 0 where
   pub frame : e .frame ≡ false
   pub slot : e .slot .0 ≡ 0
-  pub gone : e .gone .0 ≡ 0
+  pub elapsed : e .elapsed .0 ≡ 0
 
-stopped-told : (e : Engine) → stoppedSound e ≡ true → Stopped e
+stopped-elim : (e : Engine) → stoppedSound e ≡ true → Stopped e
 unfolding stoppedSound
-stopped-told e h =
+stopped-elim e h =
     let flags = and-left ((not (e .frame) && not (e .selected)) && not (e .mark)) _ h in
-    let counts = and-left (eqb (e .slot .0) 0 && eqb (e .gone .0) 0) _ (and-right ((not (e .frame) && not (e .selected)) && not (e .mark)) _ h) in
+    let counts = and-left (eqb (e .slot .0) 0 && eqb (e .elapsed .0) 0) _ (and-right ((not (e .frame) && not (e .selected)) && not (e .mark)) _ h) in
     record {
       frame = not-told (e .frame) (and-left (not (e .frame)) _ (and-left (not (e .frame) && not (e .selected)) _ flags));
       slot = eqb-true (e .slot .0) 0 (and-left (eqb (e .slot .0) 0) _ counts);
-      gone = eqb-true (e .gone .0) 0 (and-right (eqb (e .slot .0) 0) _ counts);
+      elapsed = eqb-true (e .elapsed .0) 0 (and-right (eqb (e .slot .0) 0) _ counts);
     }
 
 -- With SSE clear a sound engine is stopped.
 pub sound-stopped : (d : DeviceModel) → soundDevice d ≡ true → enabledOf (d .registers .control) ≡ false → Stopped (d .engine)
 unfolding engineSound settingsOf
-sound-stopped d h k = stopped-told (d .engine) (sym (pick-no _ _ k) ∙ sound-engine d h)
+sound-stopped d h k = stopped-elim (d .engine) (sym (pick-no _ _ k) ∙ sound-engine d h)
 
 -- A sound, enabled master whose engine is stopped.
 pub fresh-sound : (d : DeviceModel) → soundDevice d ≡ true → enabledOf (d .registers .control) ≡ true → Masters d → Stopped (d .engine) → Fresh (settingsOf (d .registers .control)) d
 unfolding settingsOf
 fresh-sound d h e m z =
     let c = d .registers .control in
-    let t = enabled-told c (control-tell c (sound-told (d .registers) (sound-registers d h) .control)) e in
+    let t = enabled-told c (control-tell c (sound-elim (d .registers) (sound-registers d h) .control)) e in
     record {
       set = refl;
       enabled = e;
@@ -60,10 +60,10 @@ fresh-sound d h e m z =
       serves = t .format;
       least = t .least;
       most = t .most;
-      half = t .half;
+      divisor = t .divisor;
       frame = z .frame;
       slot = z .slot;
-      gone = z .gone;
+      elapsed = z .elapsed;
     }
 
 -- An access by which SSE goes from 0 to 1 leaves the engine.
@@ -80,6 +80,6 @@ fresh-enabling s d o v k =
     (subst Stopped (sym (engine-enabling d o v (k .clear))) (sound-stopped d (k .sound) (k .clear))))
 
 -- Demand 3, its last sentence.
-pub enabling-told : LastSentence
-enabling-told s d d′ o v o′ v′ k k′ ps qs l l′ e =
-    load-bytes-told s (writeDevice d o v) (writeDevice d′ o′ v′) (fresh-enabling s d o v k) (fresh-enabling s d′ o′ v′ k′) ps qs l l′ e
+pub enabling-injective : LastSentence
+enabling-injective s d d′ o v o′ v′ k k′ ps qs l l′ e =
+    load-bytes-injective s (writeDevice d o v) (writeDevice d′ o′ v′) (fresh-enabling s d o v k) (fresh-enabling s d′ o′ v′ k′) ps qs l l′ e

@@ -10,16 +10,17 @@ use borrow.Author.Tests.{lt-ltb}
 use Rattle.registers.specs.Choose.{pick}
 use Rattle.registers.proofs.Picks.{pick-yes}
 use Rattle.registers.specs.Flags.{busyOf}
-use Rattle.registers.specs.Time.{cycles, slots}
+use Rattle.registers.specs.Time.{cycles, slots, cyclesOf}
+use Rattle.registers.specs.declared.time.Cycles.{Cycles}
 use Rattle.registers.specs.Transfer.{rest}
 use Rattle.registers.specs.declared.settings.Format.{Format}
 use Rattle.registers.specs.declared.settings.Format.the-variants.{Motorola, Ti, Microwire, Reserved}
 use Rattle.registers.specs.declared.settings.Settings.{Settings}
-use Rattle.serial.specs.Engine.{cleared, clearShift, still}
+use Rattle.serial.specs.Engine.{cleared, clearShift, noWord}
 use Rattle.serial.specs.Slots.{eventOf, lastSlot, levelsOf}
 use Rattle.serial.specs.Lines.{masterLines, idleOn, frameLines}
 use Rattle.serial.specs.Master.{act, resting, acting, dataBit, masterStep, ticked, masterEnd}
-use Rattle.serial.specs.Cycle.{DeviceModel, cycleOf}
+use Rattle.serial.specs.Cycle.{DeviceModel, cycleOf, after}
 use Rattle.serial.specs.Busy.{busyDevice}
 use Rattle.serial.proofs.Exchange.Ends.{waits-cons}
 use Rattle.serial.proofs.Exchange.Moves.{sending, shifted}
@@ -56,11 +57,11 @@ module _ (s : Settings) where
   -- the end of a cycle begins no frame
   end-free : (e : Engine) → e .frame ≡ false → masterEnd s e .frame ≡ false
   unfolding masterEnd ticked
-  end-free e f = go (resting e) (ltb (e .gone .0 + 1) (s .half)) (ltb (e .slot .0) (lastSlot s))
+  end-free e f = go (resting e) (ltb (e .elapsed .0 + 1) (s .divisor .0)) (ltb (e .slot .0) (lastSlot s .0))
     where
       go : (t u v : Bool)
-          → pick t e (pick u (record { slot = e .slot; gone = cycles (e .gone .0 + 1); frame = e .frame; selected = e .selected; mark = e .mark; shift = e .shift })
-          (pick v (record { slot = slots (e .slot .0 + 1); gone = cycles 0; frame = e .frame; selected = e .selected; mark = e .mark; shift = e .shift }) cleared)) .frame ≡ false
+          → pick t e (pick u (record { slot = e .slot; elapsed = cycles (e .elapsed .0 + 1); frame = e .frame; selected = e .selected; mark = e .mark; shift = e .shift })
+          (pick v (record { slot = slots (e .slot .0 + 1); elapsed = cycles 0; frame = e .frame; selected = e .selected; mark = e .mark; shift = e .shift }) cleared)) .frame ≡ false
       go true u v = f
       go false true v = f
       go false false true = f
@@ -72,7 +73,7 @@ module _ (s : Settings) where
   acted-free e f = go (e .frame) (resting e) f
     where
       go : (t r : Bool) → t ≡ false
-          → _≡_ {A = Solo} (record { tx = pick (bareStep (pick ((t && eqb (e .gone .0) 0) || (r && false)) (act s e false 0 (dataBit s e false) (eventOf s (e .slot .0))) (still e)) .takes) (rest []) []; engine = bareStep (pick ((t && eqb (e .gone .0) 0) || (r && false)) (act s e false 0 (dataBit s e false) (eventOf s (e .slot .0))) (still e)) .engine }) (solo [] (bare e))
+          → _≡_ {A = Solo} (record { tx = pick (bareStep (pick ((t && eqb (e .elapsed .0) 0) || (r && false)) (act s e false 0 (dataBit s e false) (eventOf s (e .slot))) (noWord e)) .takes) (rest []) []; engine = bareStep (pick ((t && eqb (e .elapsed .0) 0) || (r && false)) (act s e false 0 (dataBit s e false) (eventOf s (e .slot))) (noWord e)) .engine }) (solo [] (bare e))
       go true r k = absurd (true≢false k)
       go false true k = refl
       go false false k = refl
@@ -113,15 +114,15 @@ module _ (s : Settings) where
           absurd (true≢false (sym b ∙ ap (λ (n : ℕ). busy (run n x)) (sym q) ∙ ap busy (iterate-add (cycle s) i (k - i) x) ∙ run-free (k - i) (run i x) e))
 
   -- the slot in which the frame is over
-  acted-over : (n c : ℕ) (d : Bool) (w : ℕ) → eventOf s n ≡ Release → acted s (on n c d w []) .engine .frame ≡ false
+  acted-over : (n c : ℕ) (d : Bool) (w : ℕ) → eventOf s (slots n) ≡ Release → acted s (on n c d w []) .engine .frame ≡ false
   unfolding acted moves masterStep acting
   acted-over n c d w e = ap (λ (v : Event). act s (sending n (shifted c d w 0)) false 0 (dataBit s (sending n (shifted c d w 0)) false) v .engine .frame) e
 
-  acted-words : (n c : ℕ) (d : Bool) (w : ℕ) → eventOf s n ≡ Release → acted s (on n c d w []) .tx ≡ []
+  acted-words : (n c : ℕ) (d : Bool) (w : ℕ) → eventOf s (slots n) ≡ Release → acted s (on n c d w []) .tx ≡ []
   unfolding acted moves masterStep acting
   acted-words n c d w e = ap (λ (v : Event). pick (act s (sending n (shifted c d w 0)) false 0 (dataBit s (sending n (shifted c d w 0)) false) v .takes) (rest []) []) e
 
-  over-free : (n c : ℕ) (d : Bool) (w : ℕ) → eventOf s n ≡ Release → busy (cycle s (on n c d w [])) ≡ false
+  over-free : (n c : ℕ) (d : Bool) (w : ℕ) → eventOf s (slots n) ≡ Release → busy (cycle s (on n c d w [])) ≡ false
   unfolding cycle
   over-free n c d w e =
       ap (λ (ws : List ℕ). masterEnd s (acted s (on n c d w []) .engine) .frame || not (eqb (length ws) 0)) (acted-words n c d w e)
@@ -134,19 +135,19 @@ module _ (s : Settings) where
     where
       go : (t : Bool) → e .frame ≡ t → e .frame ≡ true
       go true q = q
-      go false q = absurd (true≢false (sym (idle-released (s .format) (s .polarity)) ∙ ap (λ (t : Bool). pick t (frameLines s (levelsOf s (not (eqb (e .shift .captured) 0)) (e .slot .0)) (e .shift .level)) (idleOn (s .format) (s .polarity)) .released) (sym q) ∙ k))
+      go false q = absurd (true≢false (sym (idle-released (s .format) (s .polarity)) ∙ ap (λ (t : Bool). pick t (frameLines s (levelsOf s (not (eqb (e .shift .captured) 0)) (e .slot)) (e .shift .level)) (idleOn (s .format) (s .polarity)) .released) (sym q) ∙ k))
 
   -- inside a slot
-  run-in : (j c : ℕ) (tx : List ℕ) (e : Engine) → Live e → c + 1 + j < s .half → run j (solo tx (past s (c + 1) (bare e))) ≡ solo tx (at (c + 1 + j) (bare e))
-  run-in zero c tx e live l = ap (solo tx) (pick-yes _ _ (lt-ltb (c + 1) (s .half) (omega arith)) ∙ ap (λ (i : ℕ). at i (bare e)) (omega arith))
+  run-in : (j c : ℕ) (tx : List ℕ) (e : Engine) → Live e → c + 1 + j < s .divisor .0 → run j (solo tx (past s (c + 1) (bare e))) ≡ solo tx (at (c + 1 + j) (bare e))
+  run-in zero c tx e live l = ap (solo tx) (pick-yes _ _ (lt-ltb (c + 1) (s .divisor .0) (omega arith)) ∙ ap (λ (i : ℕ). at i (bare e)) (omega arith))
   run-in (suc j) c tx e live l =
       let q : c + 1 + 1 + j ≡ c + 1 + suc j = omega arith in
-      ap (run j) (ap (cycle s) (ap (solo tx) (pick-yes _ _ (lt-ltb (c + 1) (s .half) (omega arith)))) ∙ cycle-in s tx e c live)
+      ap (run j) (ap (cycle s) (ap (solo tx) (pick-yes _ _ (lt-ltb (c + 1) (s .divisor .0) (omega arith)))) ∙ cycle-in s tx e c live)
       ∙ run-in j (c + 1) tx e live (omega arith)
       ∙ ap (λ (i : ℕ). solo tx (at i (bare e))) q
 
   -- the last cycle of a driven slot begins in the frame
-  busy-in : {x y : Solo} {l : Lines} → (k : Slot s x l y) → l .released ≡ false → (j : ℕ) → suc j < s .half → busy (run (suc j) x) ≡ true
+  busy-in : {x y : Solo} {l : Lines} → (k : Slot s x l y) → l .released ≡ false → (j : ℕ) → suc j < s .divisor .0 → busy (run (suc j) x) ≡ true
   busy-in k r j l =
       let z = k .state in
       let f = driven-frame (z .engine) (ap (λ (v : Lines). v .released) (k .lines) ∙ r) in
@@ -167,85 +168,80 @@ run-next s zero x = refl
 run-next s (suc n) x = run-next s n (cycle s x)
 
 -- so many slots and the first cycle of the next
-over-frees : (s : Settings) (all : List Lines) (x : Solo) → 0 < s .half → Until s (Over s) all x → (k : ℕ) → length all ≡ k + 2 → Frees s x (k * s .half + 1)
+over-frees : (s : Settings) (all : List Lines) (x : Solo) → 0 < s .divisor .0 → Until s (Over s) all x → (k : ℕ) → length all ≡ k + 2 → Frees s x (k * s .divisor .0 + 1)
 over-frees s all x h u k e = go (u .left) (u .there) (u .whole) (u .draws) (u .ends)
   where
-    go : (left : List Lines) (y : Solo) → u .drawn ++ left ≡ all → Draws s (u .drawn) x y → Over s left y → Frees s x (k * s .half + 1)
+    go : (left : List Lines) (y : Solo) → u .drawn ++ left ≡ all → Draws s (u .drawn) x y → Over s left y → Frees s x (k * s .divisor .0 + 1)
     go left y whole draws (over i c d w release p q) =
-        let n = length (stretch (s .half) (u .drawn)) in
+        let n = length (stretch (s .divisor .0) (u .drawn)) in
         let slots : length (u .drawn) ≡ k = omega (arith, length-append (u .drawn) left, ap length whole, e) in
-        let there = run-goes s (stretch (s .half) (u .drawn)) (draws-goes s h draws) in
+        let there = run-goes s (stretch (s .divisor .0) (u .drawn)) (draws-goes s h draws) in
         record {
           last = n;
-          next = omega (arith, length-stretch (s .half) (u .drawn) ∙ ap (λ (j : ℕ). j * s .half) slots);
+          next = omega (arith, length-stretch (s .divisor .0) (u .drawn) ∙ ap (λ (j : ℕ). j * s .divisor .0) slots);
           before = ap busy there;
           free = ap busy (run-next s n x ∙ ap (cycle s) there) ∙ over-free s i c d w release;
         }
 
 -- so many slots, the last to its end
-last-frees : (s : Settings) (all : List Lines) (x : Solo) → 0 < s .half → Until s (Last s) all x → (k : ℕ) → length all ≡ k → Frees s x (k * s .half)
+last-frees : (s : Settings) (all : List Lines) (x : Solo) → 0 < s .divisor .0 → Until s (Last s) all x → (k : ℕ) → length all ≡ k → Frees s x (k * s .divisor .0)
 last-frees s all x h u k e = go (u .left) (u .there) (u .whole) (u .draws) (u .ends)
   where
     n : ℕ
-    n = length (stretch (s .half) (u .drawn))
+    n = length (stretch (s .divisor .0) (u .drawn))
 
-    go : (left : List Lines) (y : Solo) → u .drawn ++ left ≡ all → Draws s (u .drawn) x y → Last s left y → Frees s x (k * s .half)
+    go : (left : List Lines) (y : Solo) → u .drawn ++ left ≡ all → Draws s (u .drawn) x y → Last s left y → Frees s x (k * s .divisor .0)
     go left y whole draws (last {l} i c d w driven end) =
         record {
-          last = n + (s .half - 1);
+          last = n + (s .divisor .0 - 1);
           next = q ∙ total;
-          before = ap busy (iterate-add (cycle s) n (s .half - 1) x ∙ ap (run s (s .half - 1)) there) ∙ inside (s .half - 1) (omega (arith, h));
+          before = ap busy (iterate-add (cycle s) n (s .divisor .0 - 1) x ∙ ap (run s (s .divisor .0 - 1)) there) ∙ inside (s .divisor .0 - 1) (omega (arith, h));
           free = ap (λ (m : ℕ). busy (run s m x)) q ∙ ap busy ended;
         }
       where
-        q : suc (n + (s .half - 1)) ≡ n + s .half
+        q : suc (n + (s .divisor .0 - 1)) ≡ n + s .divisor .0
         q = omega (arith, h)
 
         slots : length (u .drawn) + 1 ≡ k
         slots = omega (arith, length-append (u .drawn) (l ∷ []), ap length whole, e)
 
-        total : n + s .half ≡ k * s .half
-        total = omega (arith, length-stretch (s .half) (u .drawn), ap (λ (m : ℕ). m * s .half) slots)
+        total : n + s .divisor .0 ≡ k * s .divisor .0
+        total = omega (arith, length-stretch (s .divisor .0) (u .drawn), ap (λ (m : ℕ). m * s .divisor .0) slots)
 
         there : run s n x ≡ y
-        there = run-goes s (stretch (s .half) (u .drawn)) (draws-goes s h draws)
+        there = run-goes s (stretch (s .divisor .0) (u .drawn)) (draws-goes s h draws)
 
-        ended : run s (n + s .half) x ≡ solo [] (restAt clearShift)
+        ended : run s (n + s .divisor .0) x ≡ solo [] (restAt clearShift)
         ended =
-            iterate-add (cycle s) n (s .half) x ∙ ap (run s (s .half)) there ∙ ap (λ (i : ℕ). run s i y) (sym (length-replicate (s .half) l))
-            ∙ run-goes s (replicate (s .half) l) (slot-goes s h end)
+            iterate-add (cycle s) n (s .divisor .0) x ∙ ap (run s (s .divisor .0)) there ∙ ap (λ (i : ℕ). run s i y) (sym (length-replicate (s .divisor .0) l))
+            ∙ run-goes s (replicate (s .divisor .0) l) (slot-goes s h end)
 
-        inside : (j : ℕ) → j < s .half → busy (run s j y) ≡ true
+        inside : (j : ℕ) → j < s .divisor .0 → busy (run s j y) ≡ true
         inside zero m = refl
         inside (suc j) m = busy-in s end driven j m
 
 -- every format
-frees-on : (s : Settings) (f : Format) (phase : Bool) → Serves f → 2 < s .bits → 0 < s .half → (x : Shift) (w : ℕ) (ws : List ℕ)
-    → length (drawing (fixed f phase s) (w ∷ ws)) ≡ slotTotal (fixed f phase s) (suc (length ws))
-    → Frees (fixed f phase s) (solo (w ∷ ws) (restAt x)) (busyFor f phase (s .bits) (s .half) (suc (length ws)))
-unfolding drawing slotTotal
+frees-on : (s : Settings) (f : Format) (phase : Bool) → Serves f → 2 < s .bits → 0 < s .divisor .0 → (x : Shift) (w : ℕ) (ws : List ℕ)
+    → length (drawing (fixed f phase s) (w ∷ ws)) ≡ slotTotal (fixed f phase s) (suc (length ws)) .0
+    → Frees (fixed f phase s) (solo (w ∷ ws) (restAt x)) (busyFor f phase (s .bits) (s .divisor) (suc (length ws)) .0)
+unfolding drawing slotTotal cyclesOf
 frees-on s Motorola true r l h x w ws e = over-frees (fixed Motorola true s) _ _ h (frames1-until s (omega arith) x w ws) _ (omega (arith, e))
 frees-on s Motorola false r l h x w ws e = over-frees (fixed Motorola false s) _ _ h (frames0-until s (omega arith) x w ws) _ (omega (arith, e))
 frees-on s Ti phase r l h x w ws e = last-frees (fixed Ti phase s) _ _ h (framesTi-until s phase l x w ws) _ e
 frees-on s Microwire phase r l h x w ws e = over-frees (fixed Microwire phase s) _ _ h (framesM-until s phase x w ws) _ (omega (arith, e))
 frees-on s Reserved phase r l h x w ws e = absurd (r refl)
 
--- A device after a cycle for each input.
-abbrev pub passed : DeviceModel → List Pins → DeviceModel
-passed d [] = d
-passed d (p ∷ ps) = passed (cycleOf d p) ps
-
-passed-solo : (s : Settings) (d : DeviceModel) → Runs s d → (ps : List Pins) → soloOf (passed d ps) ≡ run s (length ps) (soloOf d)
-passed-solo s d k [] = refl
-passed-solo s d k (p ∷ ps) = passed-solo s (cycleOf d p) (runs-cycle s d p k) ps ∙ ap (run s (length ps)) (solo-cycle s d p k)
+after-solo : (s : Settings) (d : DeviceModel) → Runs s d → (ps : List Pins) → soloOf (after d ps) ≡ run s (length ps) (soloOf d)
+after-solo s d k [] = refl
+after-solo s d k (p ∷ ps) = after-solo s (cycleOf d p) (runs-cycle s d p k) ps ∙ ap (run s (length ps)) (solo-cycle s d p k)
 
 -- The cycles to the first BSY 0 of a load of n words, by a master's settings.
-abbrev pub busyCycles : Settings → ℕ → ℕ
-busyCycles s n = busyFor (s .format) (s .phase) (s .bits) (s .half) n
+abbrev pub busyCycles : Settings → ℕ → Cycles
+busyCycles s n = busyFor (s .format) (s .phase) (s .bits) (s .divisor) n
 
 -- BSY after a cycle for each input: 1 before that many cycles, 0 from then on.
 abbrev pub busyAfter : DeviceModel → List Pins → Bool
-busyAfter d ps = busyDevice (passed d ps)
+busyAfter d ps = busyDevice (after d ps)
 
 module _ (s : Settings) (d : DeviceModel) (k : Fresh s d) where
   begins : soloOf d ≡ solo (d .registers .tx) (restAt (bareShift (d .engine .shift)))
@@ -254,28 +250,28 @@ module _ (s : Settings) (d : DeviceModel) (k : Fresh s d) where
   busy-is : (ps : List Pins) (ws : List ℕ) → d .registers .tx ≡ ws → busyAfter d ps ≡ busy (run s (length ps) (solo ws (restAt (bareShift (d .engine .shift)))))
   unfolding busyOf busyDevice
   busy-is ps ws e =
-      ap busy (passed-solo s d (record { set = k .set; enabled = k .enabled; master = k .master }) ps ∙ ap (run s (length ps)) (begins ∙ ap (λ (v : List ℕ). solo v (restAt (bareShift (d .engine .shift)))) e))
+      ap busy (after-solo s d (record { set = k .set; enabled = k .enabled; master = k .master }) ps ∙ ap (run s (length ps)) (begins ∙ ap (λ (v : List ℕ). solo v (restAt (bareShift (d .engine .shift)))) e))
 
-  frees : (w : ℕ) (ws : List ℕ) → Frees s (solo (w ∷ ws) (restAt (bareShift (d .engine .shift)))) (busyCycles s (suc (length ws)))
+  frees : (w : ℕ) (ws : List ℕ) → Frees s (solo (w ∷ ws) (restAt (bareShift (d .engine .shift)))) (busyCycles s (suc (length ws)) .0)
   frees w ws =
-      subst (λ (u : Settings). Frees u (solo (w ∷ ws) (restAt (bareShift (d .engine .shift)))) (busyCycles s (suc (length ws))))
+      subst (λ (u : Settings). Frees u (solo (w ∷ ws) (restAt (bareShift (d .engine .shift)))) (busyCycles s (suc (length ws)) .0))
       (fixed-own s (k .master) (k .enabled))
-      (frees-on s (s .format) (s .phase) (k .serves) (omega (arith, k .least)) (k .half) (bareShift (d .engine .shift)) w ws
+      (frees-on s (s .format) (s .phase) (k .serves) (omega (arith, k .least)) (k .divisor) (bareShift (d .engine .shift)) w ws
       (length-drawing (fixed (s .format) (s .phase) s) (omega (arith, k .least)) (w ∷ ws)))
 
-  pub stays-busy : (ps : List Pins) → length ps < busyCycles s (length (d .registers .tx)) → busyAfter d ps ≡ true
+  pub stays-busy : (ps : List Pins) → length ps < busyCycles s (length (d .registers .tx)) .0 → busyAfter d ps ≡ true
   stays-busy ps = go (d .registers .tx) refl
     where
-      go : (ws : List ℕ) → d .registers .tx ≡ ws → length ps < busyCycles s (length ws) → busyAfter d ps ≡ true
+      go : (ws : List ℕ) → d .registers .tx ≡ ws → length ps < busyCycles s (length ws) .0 → busyAfter d ps ≡ true
       go [] e l = absurd (omega arith)
       go (w ∷ ws) e l =
           let r = frees w ws in
           busy-is ps (w ∷ ws) e ∙ busy-before s (r .last) (length ps) (solo (w ∷ ws) (restAt (bareShift (d .engine .shift)))) (r .before) (omega (arith, r .next, l))
 
-  pub gets-free : (ps : List Pins) → busyCycles s (length (d .registers .tx)) ≤ length ps → busyAfter d ps ≡ false
+  pub gets-free : (ps : List Pins) → busyCycles s (length (d .registers .tx)) .0 ≤ length ps → busyAfter d ps ≡ false
   gets-free ps = go (d .registers .tx) refl
     where
-      go : (ws : List ℕ) → d .registers .tx ≡ ws → busyCycles s (length ws) ≤ length ps → busyAfter d ps ≡ false
+      go : (ws : List ℕ) → d .registers .tx ≡ ws → busyCycles s (length ws) .0 ≤ length ps → busyAfter d ps ≡ false
       go [] e l = busy-is ps [] e ∙ run-free s (length ps) (solo [] (restAt (bareShift (d .engine .shift)))) refl
       go (w ∷ ws) e l =
           let r = frees w ws in

@@ -7,6 +7,7 @@ use native.Mathlib.Omega.{arith}
 use native.Mathlib.Numerals.{add-one}
 use lib.Dec.{leb}
 use borrow.Author.Tests.{eq-eqb, ne-eqb, lt-ltb, le-ltb, le-leb, lt-leb}
+use Rattle.registers.specs.Time.{slots}
 use Rattle.registers.specs.declared.settings.Format.the-variants.{Microwire}
 use Rattle.registers.specs.declared.settings.Settings.{Settings}
 use Rattle.serial.specs.Bits.{bitOf}
@@ -51,7 +52,7 @@ module _ (b n : ℕ) where
   microwire-capture j e m =
       rw (ne-eqb n 0 (omega arith), le-ltb n 16 (omega arith), ne-eqb n 16 (omega arith), lt-ltb n (18 + 2 * b) (omega arith), le-leb 19 n (omega arith), eq-eqb (n % 2) 1 (omega arith))
 
-  microwire-chain : n ≡ 2 * b + 18 → microwireEvent b n ≡ Chain 0
+  microwire-chain : n ≡ 2 * b + 18 → microwireEvent b n ≡ Chain (slots 0)
   unfolding microwireEvent
   microwire-chain e =
       rw (ne-eqb n 0 (omega arith), le-ltb n 16 (omega arith), ne-eqb n 16 (omega arith), le-ltb n (18 + 2 * b) (omega arith), eq-eqb n (18 + 2 * b) (omega arith))
@@ -163,7 +164,7 @@ module _ (s : Settings) (phase : Bool) where
   end-slot : (w : ℕ) → Slot S (on (2 * b + 18) b false w []) (quiet false) (on (2 * b + 19) b false w [])
   unfolding eventOf lastSlot
   end-slot w =
-      slot-on S (2 * b + 18) b false w [] (Chain 0) (2 * b + 18) b false w false (quiet false) (2 * b + 19)
+      slot-on S (2 * b + 18) b false w [] (Chain (slots 0)) (2 * b + 18) b false w false (quiet false) (2 * b + 19)
       (microwire-chain b (2 * b + 18) refl) refl
       (lines-at (2 * b + 18) b false w (levels false true) (levels-low (2 * b + 18) (b + 1) (omega arith))) (omega arith) (omega arith)
 
@@ -175,9 +176,9 @@ module _ (s : Settings) (phase : Bool) where
   chain-slot : (w u : ℕ) (tx : List ℕ) → Slot S (on (2 * b + 18) b false w (u ∷ tx)) (low S false (bitOf 8 u 0)) (on 1 0 (bitOf 8 u 0) u tx)
   unfolding eventOf lastSlot widthOf started microwireLevels
   chain-slot w u tx =
-      slot-on S (2 * b + 18) b false w (u ∷ tx) (Chain 0) 0 0 (bitOf 8 u 0) u true (low S false (bitOf 8 u 0)) 1
+      slot-on S (2 * b + 18) b false w (u ∷ tx) (Chain (slots 0)) 0 0 (bitOf 8 u 0) u true (low S false (bitOf 8 u 0)) 1
       (microwire-chain b (2 * b + 18) refl)
-      (ap (λ (y : Bool). bareStep (chainStep S (sending (2 * b + 18) (shifted b false w 0)) y u 0)) (waits-cons u tx))
+      (ap (λ (y : Bool). bareStep (chainStep S (sending (2 * b + 18) (shifted b false w 0)) y u (slots 0))) (waits-cons u tx))
       (lines-at 0 0 (bitOf 8 u 0) u _ refl) (omega arith) refl
 
   chainM-until : (x : Solo) (w : ℕ) (ws : List ℕ) → Slot S x (low S false (bitOf 8 w 0)) (on 1 0 (bitOf 8 w 0) w ws) → Until S (Over S) (chainM S (w ∷ ws)) x

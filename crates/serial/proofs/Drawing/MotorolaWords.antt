@@ -4,6 +4,7 @@ use mathlib.Core.Path.{_≡_, refl, sym, ap, subst}
 use mathlib.Core.Bool.{Bool, true, false, not}
 use mathlib.Core.List.{List, [], _∷_, _++_, append-nil}
 use native.Mathlib.Omega.{arith}
+use Rattle.registers.specs.Time.{slots}
 use Rattle.registers.specs.declared.settings.Format.the-variants.{Motorola}
 use Rattle.registers.specs.declared.settings.Settings.{Settings}
 use Rattle.serial.specs.Bits.{bitOf}
@@ -116,7 +117,7 @@ module _ (s : Settings) where
   unfolding eventOf lastSlot
   hold-slot1 w d =
       let t = s .bits in
-      slot-on (S s true) (2 * t + 1) t d w [] (Chain 1) (2 * t + 1) t d w false (low (S s true) false d) (2 * t + 2)
+      slot-on (S s true) (2 * t + 1) t d w [] (Chain (slots 1)) (2 * t + 1) t d w false (low (S s true) false d) (2 * t + 2)
       (motorola-last true t (2 * t + 1) refl) refl
       (lines-at s true (2 * t + 1) (shifted t d w 0) false (levels-last true t (2 * t + 1) refl)) (omega arith) (omega arith)
 
@@ -126,9 +127,9 @@ module _ (s : Settings) where
   unfolding eventOf lastSlot widthOf started
   chain-slot l w d u tx =
       let t = s .bits in
-      slot-on (S s true) (2 * t + 1) t d w (u ∷ tx) (Chain 1) 1 0 (bitOf t u 0) u true (low (S s true) true (bitOf t u 0)) 2
+      slot-on (S s true) (2 * t + 1) t d w (u ∷ tx) (Chain (slots 1)) 1 0 (bitOf t u 0) u true (low (S s true) true (bitOf t u 0)) 2
       (motorola-last true t (2 * t + 1) refl)
-      (ap (λ (y : Bool). bareStep (chainStep (S s true) (sending (2 * t + 1) (shifted t d w 0)) y u 1)) (waits-cons u tx))
+      (ap (λ (y : Bool). bareStep (chainStep (S s true) (sending (2 * t + 1) (shifted t d w 0)) y u (slots 1))) (waits-cons u tx))
       (lines-at s true 1 (shifted 0 (bitOf t u 0) u 0) true (levels-drive true t 1 0 refl l)) (omega arith) refl
 
   chain1-until : 1 < s .bits → (x : Solo) (w : ℕ) (ws : List ℕ) → Slot (S s true) x (low (S s true) true (bitOf (s .bits) w 0)) (on 2 0 (bitOf (s .bits) w 0) w ws)

@@ -6,7 +6,7 @@ use mathlib.Core.List.{List, [], _∷_, _++_, map}
 use native.Mathlib.Omega.{arith}
 use lib.ListN.{length, length-append, replicate, length-replicate}
 use Rattle.registers.specs.Settings.{settingsOf}
-use Rattle.registers.specs.Time.{cycles, slots}
+use Rattle.registers.specs.Time.{cycles, slots, cyclesOf}
 use Rattle.registers.specs.declared.settings.Format.{Format}
 use Rattle.registers.specs.declared.settings.Format.the-variants.{Motorola, Ti, Microwire, Reserved}
 use Rattle.registers.specs.declared.settings.Settings.{Settings}
@@ -15,12 +15,12 @@ use Rattle.serial.specs.Engine.{clearShift}
 use Rattle.serial.specs.Slots.{widthOf}
 use Rattle.serial.specs.Lines.{byteOf, masterLines}
 use Rattle.serial.specs.Master.{resting, acting, masterStep, masterEnd}
-use Rattle.serial.specs.Cycle.{DeviceModel}
-use Rattle.serial.specs.Drawing.{slotTotal, idle, drawingOn, drawing, stretch, recording}
-use Rattle.serial.proofs.Drawing.Told.{Serves, bytes-told, length-stretch, length-drawing}
+use Rattle.serial.specs.Cycle.{DeviceModel, recording}
+use Rattle.serial.specs.Drawing.{slotTotal, idle, drawingOn, drawing, stretch}
+use Rattle.serial.proofs.Drawing.Told.{Serves, bytes-injective, length-stretch, length-drawing}
 use Rattle.serial.proofs.Drawing.Solo.{bare, bareShift, moves, acted, cycle, Goes, none, more, recording-goes}
 use Rattle.serial.proofs.Drawing.Slot.{fixed, solo, restAt, Draws, goes-then, draws-goes, over-draws, last-draws, until-draws}
-use Rattle.serial.proofs.Drawing.Window.{window-told}
+use Rattle.serial.proofs.Drawing.Window.{window-injective}
 use Rattle.serial.proofs.Drawing.MotorolaWords.{frames0-until, frames1-until}
 use Rattle.serial.proofs.Drawing.TiWords.{framesTi-until}
 use Rattle.serial.proofs.Drawing.MicrowireWords.{framesM-until}
@@ -36,10 +36,10 @@ pub record Fresh (s : Settings) (d : DeviceModel) : Type 0 where
   pub serves : Serves (s .format)
   pub least : 4 ≤ s .bits
   pub most : s .bits ≤ 16
-  pub half : 0 < s .half
+  pub divisor : 0 < s .divisor .0
   pub frame : d .engine .frame ≡ false
   pub slot : d .engine .slot .0 ≡ 0
-  pub gone : d .engine .gone .0 ≡ 0
+  pub elapsed : d .engine .elapsed .0 ≡ 0
 
 -- every format draws its load
 draws-on : (s : Settings) (f : Format) (phase : Bool) → Serves f → 2 < s .bits → (x : Shift) (w : ℕ) (ws : List ℕ)
@@ -53,7 +53,7 @@ draws-on s Reserved phase r l x w ws = absurd (r refl)
 
 pub fixed-own : (s : Settings) → s .slave ≡ false → s .enabled ≡ true → fixed (s .format) (s .phase) s ≡ s
 fixed-own s m e =
-    ap₂ (λ (u v : Bool). record { format = s .format; phase = s .phase; polarity = s .polarity; bits = s .bits; half = s .half; slave = u; silent = s .silent; loopback = s .loopback; enabled = v })
+    ap₂ (λ (u v : Bool). record { format = s .format; phase = s .phase; polarity = s .polarity; bits = s .bits; divisor = s .divisor; slave = u; sod = s .sod; loopback = s .loopback; enabled = v })
     (sym m) (sym e)
 
 none-on : (s : Settings) (f : Format) (phase : Bool) → drawingOn f phase s [] ≡ []
@@ -69,9 +69,9 @@ drawing-none s = none-on s (s .format) (s .phase)
 
 -- the cycles of a load
 load-goes : (s : Settings) (d : DeviceModel) → Fresh s d → (x : Shift) (w : ℕ) (ws : List ℕ)
-    → Goes s (stretch (s .half) (drawing s (w ∷ ws))) (solo (w ∷ ws) (restAt x)) (solo [] (restAt clearShift))
+    → Goes s (stretch (s .divisor .0) (drawing s (w ∷ ws))) (solo (w ∷ ws) (restAt x)) (solo [] (restAt clearShift))
 load-goes s d k x w ws =
-    draws-goes s (k .half)
+    draws-goes s (k .divisor)
     (subst (λ (u : Settings). Draws u (drawing u (w ∷ ws)) (solo (w ∷ ws) (restAt x)) (solo [] (restAt clearShift)))
     (fixed-own s (k .master) (k .enabled)) (draws-on s (s .format) (s .phase) (k .serves) (omega (arith, k .least)) x w ws))
 
@@ -79,9 +79,9 @@ load-goes s d k x w ws =
 pub fresh-engine : (s : Settings) (d : DeviceModel) → Fresh s d → bare (d .engine) ≡ restAt (bareShift (d .engine .shift))
 fresh-engine s d k =
     let x = bareShift (d .engine .shift) in
-    ap (λ (n : ℕ). record { slot = slots n; gone = d .engine .gone; frame = d .engine .frame; selected = false; mark = false; shift = x }) (k .slot)
-    ∙ ap (λ (n : ℕ). record { slot = slots 0; gone = cycles n; frame = d .engine .frame; selected = false; mark = false; shift = x }) (k .gone)
-    ∙ ap (λ (f : Bool). record { slot = slots 0; gone = cycles 0; frame = f; selected = false; mark = false; shift = x }) (k .frame)
+    ap (λ (n : ℕ). record { slot = slots n; elapsed = d .engine .elapsed; frame = d .engine .frame; selected = false; mark = false; shift = x }) (k .slot)
+    ∙ ap (λ (n : ℕ). record { slot = slots 0; elapsed = cycles n; frame = d .engine .frame; selected = false; mark = false; shift = x }) (k .elapsed)
+    ∙ ap (λ (f : Bool). record { slot = slots 0; elapsed = cycles 0; frame = f; selected = false; mark = false; shift = x }) (k .frame)
 
 -- with nothing to send a master stays idle
 idle-goes : (s : Settings) (x : Shift) (k : ℕ) → Goes s (replicate k (idle s)) (solo [] (restAt (bareShift x))) (solo [] (restAt (bareShift x)))
@@ -89,18 +89,18 @@ unfolding cycle acted moves masterStep acting resting masterEnd masterLines
 idle-goes s x zero = none
 idle-goes s x (suc k) = more refl refl (idle-goes s x k)
 
-recorded-of : (s : Settings) (d : DeviceModel) → Fresh s d → (ws : List ℕ) → d .registers .tx ≡ ws → (ps : List Pins) (k : ℕ) → length ps ≡ slotTotal s (length ws) * s .half + k
-    → recording d ps ≡ stretch (s .half) (drawing s ws) ++ replicate k (idle s)
-unfolding slotTotal
+recorded-of : (s : Settings) (d : DeviceModel) → Fresh s d → (ws : List ℕ) → d .registers .tx ≡ ws → (ps : List Pins) (k : ℕ) → length ps ≡ cyclesOf (slotTotal s (length ws)) (s .divisor) .0 + k
+    → recording d ps ≡ stretch (s .divisor .0) (drawing s ws) ++ replicate k (idle s)
+unfolding slotTotal cyclesOf
 recorded-of s d f [] e ps k l =
     recording-goes s d (record { set = f .set; enabled = f .enabled; master = f .master })
     (ap₂ solo e (fresh-engine s d f))
     (idle-goes s (d .engine .shift) k)
     ps
     (omega (arith, l, length-replicate k (idle s)))
-    ∙ ap (λ (ls : List Lines). stretch (s .half) ls ++ replicate k (idle s)) (sym (drawing-none s))
+    ∙ ap (λ (ls : List Lines). stretch (s .divisor .0) ls ++ replicate k (idle s)) (sym (drawing-none s))
 recorded-of s d f (w ∷ ws) e ps k l =
-    let ls = stretch (s .half) (drawing s (w ∷ ws)) in
+    let ls = stretch (s .divisor .0) (drawing s (w ∷ ws)) in
     recording-goes s d (record { set = f .set; enabled = f .enabled; master = f .master })
     (ap₂ solo e (fresh-engine s d f))
     (goes-then s (load-goes s d f (bareShift (d .engine .shift)) w ws) (idle-goes s clearShift k))
@@ -110,27 +110,27 @@ recorded-of s d f (w ∷ ws) e ps k l =
       l,
       length-append ls (replicate k (idle s)),
       length-replicate k (idle s),
-      length-stretch (s .half) (drawing s (w ∷ ws)),
-      ap (λ (n : ℕ). n * s .half) (length-drawing s (omega (arith, f .least)) (w ∷ ws)),
+      length-stretch (s .divisor .0) (drawing s (w ∷ ws)),
+      ap (λ (n : ℕ). n * s .divisor .0) (length-drawing s (omega (arith, f .least)) (w ∷ ws)),
     ))
 
 -- The lines of the first slot total times h cycles are the drawing of the load, every entry h times; behind them come idle lines.
-pub recorded : (s : Settings) (d : DeviceModel) → Fresh s d → (ps : List Pins) (k : ℕ) → length ps ≡ slotTotal s (length (d .registers .tx)) * s .half + k
-    → recording d ps ≡ stretch (s .half) (drawing s (d .registers .tx)) ++ replicate k (idle s)
+pub recorded : (s : Settings) (d : DeviceModel) → Fresh s d → (ps : List Pins) (k : ℕ) → length ps ≡ cyclesOf (slotTotal s (length (d .registers .tx))) (s .divisor) .0 + k
+    → recording d ps ≡ stretch (s .divisor .0) (drawing s (d .registers .tx)) ++ replicate k (idle s)
 recorded s d f ps k l = recorded-of s d f (d .registers .tx) refl ps k l
 
 -- Two loads that give the same lines to their last idle slot and beyond, whatever the input pins carry, are equal after cutting to b bits, Microwire to 8.
-pub load-told : (s : Settings) (d d′ : DeviceModel) → Fresh s d → Fresh s d′ → (ps qs : List Pins)
-    → slotTotal s (length (d .registers .tx)) * s .half ≤ length ps → slotTotal s (length (d′ .registers .tx)) * s .half ≤ length qs
+pub load-injective : (s : Settings) (d d′ : DeviceModel) → Fresh s d → Fresh s d′ → (ps qs : List Pins)
+    → cyclesOf (slotTotal s (length (d .registers .tx))) (s .divisor) .0 ≤ length ps → cyclesOf (slotTotal s (length (d′ .registers .tx))) (s .divisor) .0 ≤ length qs
     → recording d ps ≡ recording d′ qs → map (cut (widthOf s)) (d .registers .tx) ≡ map (cut (widthOf s)) (d′ .registers .tx)
-load-told s d d′ f f′ ps qs l l′ e =
-    let k = length ps - slotTotal s (length (d .registers .tx)) * s .half in
-    let k′ = length qs - slotTotal s (length (d′ .registers .tx)) * s .half in
-    window-told s (f .serves) (omega (arith, f .least)) (f .half) (f .most) (d .registers .tx) (d′ .registers .tx) k k′
+load-injective s d d′ f f′ ps qs l l′ e =
+    let k = length ps - cyclesOf (slotTotal s (length (d .registers .tx))) (s .divisor) .0 in
+    let k′ = length qs - cyclesOf (slotTotal s (length (d′ .registers .tx))) (s .divisor) .0 in
+    window-injective s (f .serves) (omega (arith, f .least)) (f .divisor) (f .most) (d .registers .tx) (d′ .registers .tx) k k′
     (sym (recorded s d f ps k (omega (arith, l))) ∙ e ∙ recorded s d′ f′ qs k′ (omega (arith, l′)))
 
 -- The same of the output bytes.
-pub load-bytes-told : (s : Settings) (d d′ : DeviceModel) → Fresh s d → Fresh s d′ → (ps qs : List Pins)
-    → slotTotal s (length (d .registers .tx)) * s .half ≤ length ps → slotTotal s (length (d′ .registers .tx)) * s .half ≤ length qs
+pub load-bytes-injective : (s : Settings) (d d′ : DeviceModel) → Fresh s d → Fresh s d′ → (ps qs : List Pins)
+    → cyclesOf (slotTotal s (length (d .registers .tx))) (s .divisor) .0 ≤ length ps → cyclesOf (slotTotal s (length (d′ .registers .tx))) (s .divisor) .0 ≤ length qs
     → map byteOf (recording d ps) ≡ map byteOf (recording d′ qs) → map (cut (widthOf s)) (d .registers .tx) ≡ map (cut (widthOf s)) (d′ .registers .tx)
-load-bytes-told s d d′ f f′ ps qs l l′ e = load-told s d d′ f f′ ps qs l l′ (bytes-told (recording d ps) (recording d′ qs) e)
+load-bytes-injective s d d′ f f′ ps qs l l′ e = load-injective s d d′ f f′ ps qs l l′ (bytes-injective (recording d ps) (recording d′ qs) e)

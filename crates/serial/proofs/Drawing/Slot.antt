@@ -14,7 +14,7 @@ use Rattle.registers.specs.Transfer.{rest}
 use Rattle.registers.specs.declared.settings.Format.{Format}
 use Rattle.registers.specs.declared.settings.Settings.{Settings}
 use Rattle.serial.specs.Bits.{bitOf}
-use Rattle.serial.specs.Engine.{cleared, clearShift, still, capturedOf, captureStep}
+use Rattle.serial.specs.Engine.{cleared, clearShift, noWord, capturedOf, captureStep}
 use Rattle.serial.specs.Slots.{eventOf, lastSlot}
 use Rattle.serial.specs.Lines.{masterLines}
 use Rattle.serial.specs.Master.{act, resting, acting, dataBit, masterStep, ticked, masterEnd}
@@ -33,7 +33,7 @@ use Rattle.serial.specs.declared.slots.Event.the-variants.{Release}
 -- the settings of an enabled master, with its format and phase
 abbrev pub fixed : Format → Bool → Settings → Settings
 fixed f phase s =
-    record { format = f; phase = phase; polarity = s .polarity; bits = s .bits; half = s .half; slave = false; silent = s .silent; loopback = s .loopback; enabled = true }
+    record { format = f; phase = phase; polarity = s .polarity; bits = s .bits; divisor = s .divisor; slave = false; sod = s .sod; loopback = s .loopback; enabled = true }
 
 abbrev pub solo : List ℕ → Engine → Solo
 solo tx e = record { tx = tx; engine = e }
@@ -42,7 +42,7 @@ solo tx e = record { tx = tx; engine = e }
 
 -- with c cycles of the slot gone
 abbrev pub at : ℕ → Engine → Engine
-at c e = record { slot = e .slot; gone = cycles c; frame = e .frame; selected = e .selected; mark = e .mark; shift = e .shift }
+at c e = record { slot = e .slot; elapsed = cycles c; frame = e .frame; selected = e .selected; mark = e .mark; shift = e .shift }
 
 -- in a frame or in an idle slot
 abbrev pub Live : Engine → Type 0
@@ -52,13 +52,13 @@ module _ (s : Settings) where
   -- in the next slot
   unfoldable pub onward : Engine → Engine
   onward e =
-      pick (ltb (e .slot .0) (lastSlot s))
-      (record { slot = slots (e .slot .0 + 1); gone = cycles 0; frame = e .frame; selected = e .selected; mark = e .mark; shift = e .shift })
+      pick (ltb (e .slot .0) (lastSlot s .0))
+      (record { slot = slots (e .slot .0 + 1); elapsed = cycles 0; frame = e .frame; selected = e .selected; mark = e .mark; shift = e .shift })
       cleared
 
   -- after c cycles of the slot
   abbrev pub past : ℕ → Engine → Engine
-  past c e = pick (ltb c (s .half)) (at c e) (onward e)
+  past c e = pick (ltb c (s .divisor .0)) (at c e) (onward e)
 
   end-slot : (e : Engine) (c : ℕ) → Live e → masterEnd s (at c e) ≡ past (c + 1) e
   unfolding masterEnd resting ticked onward
@@ -85,11 +85,11 @@ module _ (s : Settings) where
   goes-then none h = h
   goes-then (more a b g) h = more a b (goes-then g h)
 
-  tail : (j c : ℕ) (tx : List ℕ) (e : Engine) → Live e → c + 1 + j ≡ s .half
+  tail : (j c : ℕ) (tx : List ℕ) (e : Engine) → Live e → c + 1 + j ≡ s .divisor .0
       → Goes s (replicate j (masterLines s (bare e))) (solo tx (past (c + 1) (bare e))) (solo tx (onward (bare e)))
-  tail zero c tx e live q = goes-from (ap (solo tx) (pick-no _ _ (le-ltb (c + 1) (s .half) (omega arith)))) none
+  tail zero c tx e live q = goes-from (ap (solo tx) (pick-no _ _ (le-ltb (c + 1) (s .divisor .0) (omega arith)))) none
   tail (suc j) c tx e live q =
-      goes-from (ap (solo tx) (pick-yes _ _ (lt-ltb (c + 1) (s .half) (omega arith))))
+      goes-from (ap (solo tx) (pick-yes _ _ (lt-ltb (c + 1) (s .divisor .0) (omega arith))))
       (more (shows-in tx e c) (cycle-in tx e c live) (tail j (c + 1) tx e live (omega arith)))
 
   -- A slot: the state after its event, the lines that it shows, the state at the next slot's beginning.
@@ -128,11 +128,11 @@ module _ (s : Settings) where
   unfolding masterLines
   state-lines k = k .lines
 
-  pub slot-goes : {x y : Solo} {l : Lines} → 0 < s .half → Slot x l y → Goes s (replicate (s .half) l) x y
+  pub slot-goes : {x y : Solo} {l : Lines} → 0 < s .divisor .0 → Slot x l y → Goes s (replicate (s .divisor .0) l) x y
   slot-goes {x} {y} {l} h k =
       let z = k .state in
-      let j = s .half - 1 in
-      let q : suc j ≡ s .half = omega arith in
+      let j = s .divisor .0 - 1 in
+      let q : suc j ≡ s .divisor .0 = omega arith in
       subst (λ (n : ℕ). Goes s (replicate n l) x y) q
       (more (ap (λ (u : Solo). masterLines s (u .engine)) (k .acts) ∙ k .lines) (first-cycle k)
       (subst (λ (m : Lines). Goes s (replicate j m) (solo (z .tx) (past (0 + 1) (bare (z .engine)))) y) (state-lines k)
@@ -140,7 +140,7 @@ module _ (s : Settings) where
       (tail j 0 (z .tx) (z .engine) (k .live) (omega arith)))))
 
   -- slots drawn are cycles shown
-  pub draws-goes : {ls : List Lines} {x y : Solo} → 0 < s .half → Draws ls x y → Goes s (stretch (s .half) ls) x y
+  pub draws-goes : {ls : List Lines} {x y : Solo} → 0 < s .divisor .0 → Draws ls x y → Goes s (stretch (s .divisor .0) ls) x y
   draws-goes h done = none
   draws-goes h (draw k d) = goes-then (slot-goes h k) (draws-goes h d)
 
@@ -156,21 +156,21 @@ move n c d w t = record { engine = sending n (shifted c d w 0); takes = t; compl
 
 -- no frame and no idle slot
 abbrev pub restAt : Shift → Engine
-restAt x = record { slot = slots 0; gone = cycles 0; frame = false; selected = false; mark = false; shift = x }
+restAt x = record { slot = slots 0; elapsed = cycles 0; frame = false; selected = false; mark = false; shift = x }
 
 -- idle slot n
 abbrev pub parkAt : ℕ → Engine
-parkAt n = record { slot = slots n; gone = cycles 0; frame = false; selected = false; mark = false; shift = clearShift }
+parkAt n = record { slot = slots n; elapsed = cycles 0; frame = false; selected = false; mark = false; shift = clearShift }
 
 module _ (s : Settings) where
-  onward-on : (n k c : ℕ) (d : Bool) (w : ℕ) (tx : List ℕ) → n + 1 ≡ k → n < lastSlot s → solo tx (onward s (sending n (shifted c d w 0))) ≡ on k c d w tx
+  onward-on : (n k c : ℕ) (d : Bool) (w : ℕ) (tx : List ℕ) → n + 1 ≡ k → n < lastSlot s .0 → solo tx (onward s (sending n (shifted c d w 0))) ≡ on k c d w tx
   unfolding onward
-  onward-on n k c d w tx e l = ap (solo tx) (pick-yes _ _ (lt-ltb n (lastSlot s) l)) ∙ ap (λ (i : ℕ). on i c d w tx) e
+  onward-on n k c d w tx e l = ap (solo tx) (pick-yes _ _ (lt-ltb n (lastSlot s .0) l)) ∙ ap (λ (i : ℕ). on i c d w tx) e
 
   -- an event in a frame after which the frame goes on
   pub slot-on : (n c : ℕ) (d : Bool) (w : ℕ) (tx : List ℕ) (v : Event) (m c′ : ℕ) (d′ : Bool) (w′ : ℕ) (t : Bool) (l : Lines) (k : ℕ)
-      → eventOf s n ≡ v → bareStep (act s (sending n (shifted c d w 0)) (waits tx) (getD tx 0 0) (dataBit s (sending n (shifted c d w 0)) false) v) ≡ move m c′ d′ w′ t
-      → masterLines s (sending m (shifted c′ d′ w′ 0)) ≡ l → m < lastSlot s → m + 1 ≡ k → Slot s (on n c d w tx) l (on k c′ d′ w′ (pick t (rest tx) tx))
+      → eventOf s (slots n) ≡ v → bareStep (act s (sending n (shifted c d w 0)) (waits tx) (getD tx 0 0) (dataBit s (sending n (shifted c d w 0)) false) v) ≡ move m c′ d′ w′ t
+      → masterLines s (sending m (shifted c′ d′ w′ 0)) ≡ l → m < lastSlot s .0 → m + 1 ≡ k → Slot s (on n c d w tx) l (on k c′ d′ w′ (pick t (rest tx) tx))
   unfolding acted moves masterStep acting
   slot-on n c d w tx v m c′ d′ w′ t l k e a q b z =
       let x = sending n (shifted c d w 0) in
@@ -186,8 +186,8 @@ module _ (s : Settings) where
 
   -- an event in the last slot of a frame that has no idle slot
   pub slot-last : (n c : ℕ) (d : Bool) (w : ℕ) (tx : List ℕ) (v : Event) (c′ : ℕ) (d′ : Bool) (w′ : ℕ) (l : Lines)
-      → eventOf s n ≡ v → bareStep (act s (sending n (shifted c d w 0)) (waits tx) (getD tx 0 0) (dataBit s (sending n (shifted c d w 0)) false) v) ≡ move n c′ d′ w′ false
-      → masterLines s (sending n (shifted c′ d′ w′ 0)) ≡ l → n ≡ lastSlot s → Slot s (on n c d w tx) l (solo tx (restAt clearShift))
+      → eventOf s (slots n) ≡ v → bareStep (act s (sending n (shifted c d w 0)) (waits tx) (getD tx 0 0) (dataBit s (sending n (shifted c d w 0)) false) v) ≡ move n c′ d′ w′ false
+      → masterLines s (sending n (shifted c′ d′ w′ 0)) ≡ l → n ≡ lastSlot s .0 → Slot s (on n c d w tx) l (solo tx (restAt clearShift))
   unfolding acted moves masterStep acting onward
   slot-last n c d w tx v c′ d′ w′ l e a q b =
       let x = sending n (shifted c d w 0) in
@@ -198,18 +198,18 @@ module _ (s : Settings) where
         begins = refl;
         lines = q;
         live = refl;
-        ends = ap (solo tx) (pick-no _ _ (le-ltb n (lastSlot s) (omega arith)));
+        ends = ap (solo tx) (pick-no _ _ (le-ltb n (lastSlot s .0) (omega arith)));
       }
 
   -- an idle master with a waiting word starts slot 0
   pub slot-start : (x : Shift) (w : ℕ) (tx : List ℕ) (v : Event) (d′ : Bool) (l : Lines)
-      → eventOf s 0 ≡ v → bareStep (act s (restAt x) true w (dataBit s (restAt x) false) v) ≡ move 0 0 d′ w true
-      → masterLines s (sending 0 (shifted 0 d′ w 0)) ≡ l → 0 < lastSlot s → Slot s (solo (w ∷ tx) (restAt x)) l (on 1 0 d′ w tx)
+      → eventOf s (slots 0) ≡ v → bareStep (act s (restAt x) true w (dataBit s (restAt x) false) v) ≡ move 0 0 d′ w true
+      → masterLines s (sending 0 (shifted 0 d′ w 0)) ≡ l → 0 < lastSlot s .0 → Slot s (solo (w ∷ tx) (restAt x)) l (on 1 0 d′ w tx)
   unfolding acted moves masterStep acting resting
   slot-start x w tx v d′ l e a q b =
       record {
         state = on 0 0 d′ w tx;
-        acts = ap (λ (t : Bool). record { tx = pick (bareStep (pick t (act s (restAt x) t w (dataBit s (restAt x) false) (eventOf s 0)) (still (restAt x))) .takes) tx (w ∷ tx); engine = bareStep (pick t (act s (restAt x) t w (dataBit s (restAt x) false) (eventOf s 0)) (still (restAt x))) .engine }) (waits-cons w tx)
+        acts = ap (λ (t : Bool). record { tx = pick (bareStep (pick t (act s (restAt x) t w (dataBit s (restAt x) false) (eventOf s (slots 0))) (noWord (restAt x))) .takes) tx (w ∷ tx); engine = bareStep (pick t (act s (restAt x) t w (dataBit s (restAt x) false) (eventOf s (slots 0))) (noWord (restAt x))) .engine }) (waits-cons w tx)
             ∙ ap (λ (r : Step). record { tx = pick (r .takes) tx (w ∷ tx); engine = r .engine })
             (ap (λ (u : Event). bareStep (act s (restAt x) true w (dataBit s (restAt x) false) u)) e ∙ a);
         begins = refl;
@@ -219,7 +219,7 @@ module _ (s : Settings) where
       }
 
   -- the frame is over
-  pub slot-release : (n c : ℕ) (d : Bool) (w : ℕ) (tx : List ℕ) (k : ℕ) → eventOf s n ≡ Release → 0 < n → n < lastSlot s → n + 1 ≡ k → Slot s (on n c d w tx) (idle s) (solo tx (parkAt k))
+  pub slot-release : (n c : ℕ) (d : Bool) (w : ℕ) (tx : List ℕ) (k : ℕ) → eventOf s (slots n) ≡ Release → 0 < n → n < lastSlot s .0 → n + 1 ≡ k → Slot s (on n c d w tx) (idle s) (solo tx (parkAt k))
   unfolding acted moves masterStep acting masterLines onward
   slot-release n c d w tx k e p b z =
       let x = sending n (shifted c d w 0) in
@@ -230,11 +230,11 @@ module _ (s : Settings) where
         begins = refl;
         lines = refl;
         live = ne-eqb n 0 (omega arith);
-        ends = ap (solo tx) (pick-yes _ _ (lt-ltb n (lastSlot s) b)) ∙ ap (λ (i : ℕ). solo tx (parkAt i)) z;
+        ends = ap (solo tx) (pick-yes _ _ (lt-ltb n (lastSlot s .0) b)) ∙ ap (λ (i : ℕ). solo tx (parkAt i)) z;
       }
 
   -- the last idle slot
-  pub slot-pause : (n : ℕ) (tx : List ℕ) → 0 < n → n ≡ lastSlot s → Slot s (solo tx (parkAt n)) (idle s) (solo tx (restAt clearShift))
+  pub slot-pause : (n : ℕ) (tx : List ℕ) → 0 < n → n ≡ lastSlot s .0 → Slot s (solo tx (parkAt n)) (idle s) (solo tx (restAt clearShift))
   unfolding acted moves masterStep acting resting masterLines onward
   slot-pause n tx p e =
       record {
@@ -243,7 +243,7 @@ module _ (s : Settings) where
         begins = refl;
         lines = refl;
         live = ne-eqb n 0 (omega arith);
-        ends = ap (solo tx) (pick-no _ _ (le-ltb n (lastSlot s) (omega arith)));
+        ends = ap (solo tx) (pick-no _ _ (le-ltb n (lastSlot s .0) (omega arith)));
       }
 
   -- a capture
@@ -283,7 +283,7 @@ module _ (s : Settings) where
 module _ (s : Settings) where
   -- the slot in which the last frame is over, the first of two idle ones
   pub data Over : List Lines → Solo → Type 0 where
-    over : (n c : ℕ) (d : Bool) (w : ℕ) → eventOf s n ≡ Release → 0 < n → n + 1 ≡ lastSlot s → Over (idle s ∷ idle s ∷ []) (on n c d w [])
+    over : (n c : ℕ) (d : Bool) (w : ℕ) → eventOf s (slots n) ≡ Release → 0 < n → n + 1 ≡ lastSlot s .0 → Over (idle s ∷ idle s ∷ []) (on n c d w [])
 
   -- a last slot that is in the frame to its end
   pub data Last : List Lines → Solo → Type 0 where

@@ -16,10 +16,9 @@ use Rattle.serial.specs.Slots.{eventOf, lastSlot}
 use Rattle.serial.specs.Lines.{masterLines, linesOf}
 use Rattle.serial.specs.Master.{joinedShift, act, resting, acting, dataBit, masterStep, ticked, masterEnd}
 use Rattle.serial.proofs.Inputs.{tx-cycle}
-use Rattle.serial.specs.Cycle.{DeviceModel, stepOf, endOf, deviceStep, cycleOf}
+use Rattle.serial.specs.Cycle.{DeviceModel, stepOf, endOf, deviceStep, cycleOf, recording}
 use Rattle.serial.proofs.Cycles.{control-cycle}
 use Rattle.serial.proofs.Exchange.Core.{waits}
-use Rattle.serial.specs.Drawing.{recording}
 use Rattle.serial.specs.declared.engine.Shift.{Shift}
 use Rattle.serial.specs.declared.engine.Engine.{Engine}
 use Rattle.serial.specs.declared.engine.Step.{Step}
@@ -35,7 +34,7 @@ abbrev pub bareShift : Shift → Shift
 bareShift x = record { captured = x .captured; level = x .level; sending = x .sending; receiving = 0 }
 
 abbrev pub bare : Engine → Engine
-bare e = record { slot = e .slot; gone = e .gone; frame = e .frame; selected = false; mark = false; shift = bareShift (e .shift) }
+bare e = record { slot = e .slot; elapsed = e .elapsed; frame = e .frame; selected = false; mark = false; shift = bareShift (e .shift) }
 
 -- the same of a step, and the word completed
 abbrev pub bareStep : Step → Step
@@ -47,7 +46,7 @@ captured-bare b bit bit′ x = pick-alike bareShift (ltb (x .captured) b) _ _ _ 
 
 abbrev bareWith : Engine → Shift → Step
 bareWith e x =
-    record { engine = record { slot = e .slot; gone = e .gone; frame = e .frame; selected = false; mark = false; shift = x }; takes = false; complete = false; word = 0 }
+    record { engine = record { slot = e .slot; elapsed = e .elapsed; frame = e .frame; selected = false; mark = false; shift = x }; takes = false; complete = false; word = 0 }
 
 capture-bare : (b : ℕ) (bit bit′ : Bool) (e : Engine) → bareStep (captureStep b bit e) ≡ bareStep (captureStep b bit′ (bare e))
 unfolding captureStep
@@ -71,21 +70,21 @@ master-bare : (s : Settings) (e : Engine) (waiting : Bool) (next : ℕ) (rxd : B
 unfolding masterStep acting resting
 master-bare s e waiting next rxd =
     pick-alike bareStep (acting e waiting) _ _ _ _
-    (act-bare s e waiting next (dataBit s e rxd) (dataBit s (bare e) false) (eventOf s (e .slot .0))) refl
+    (act-bare s e waiting next (dataBit s e rxd) (dataBit s (bare e) false) (eventOf s (e .slot))) refl
 
 end-bare : (s : Settings) (e : Engine) → bare (masterEnd s e) ≡ bare (masterEnd s (bare e))
 unfolding masterEnd ticked resting
 end-bare s e =
     pick-alike bare (resting e) _ _ _ _ refl
-    (pick-alike bare (ltb (e .gone .0 + 1) (s .half)) _ _ _ _ refl
-    (pick-alike bare (ltb (e .slot .0) (lastSlot s)) _ _ _ _ refl refl))
+    (pick-alike bare (ltb (e .elapsed .0 + 1) (s .divisor .0)) _ _ _ _ refl
+    (pick-alike bare (ltb (e .slot .0) (lastSlot s .0)) _ _ _ _ refl refl))
 
 bare-end : (s : Settings) (e : Engine) → bare (masterEnd s (bare e)) ≡ masterEnd s (bare e)
 unfolding masterEnd ticked resting
 bare-end s e =
     pick-alike₂ (resting e) refl
-    (pick-alike₂ (ltb (e .gone .0 + 1) (s .half)) refl
-    (pick-alike₂ (ltb (e .slot .0) (lastSlot s)) refl refl))
+    (pick-alike₂ (ltb (e .elapsed .0 + 1) (s .divisor .0)) refl
+    (pick-alike₂ (ltb (e .slot .0) (lastSlot s .0)) refl refl))
   where
     pick-alike₂ : (t : Bool) {x y : Engine} → bare x ≡ x → bare y ≡ y → bare (pick t x y) ≡ pick t x y
     pick-alike₂ true p q = p

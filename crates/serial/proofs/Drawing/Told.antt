@@ -76,31 +76,31 @@ length-bits f g t w i (suc n) = omega (arith, length-bits f g t w (i + 1) n)
 abbrev pub Shows : (Bool → Lines) → Type 0
 Shows f = (d : Bool) → f d .txd ≡ d
 
-first-told : (f : Bool → Lines) → Shows f → (d d′ : Bool) → f d ≡ f d′ → d ≡ d′
-first-told f s d d′ e = sym (s d) ∙ ap (λ (l : Lines). l .txd) e ∙ s d′
+first-injective : (f : Bool → Lines) → Shows f → (d d′ : Bool) → f d ≡ f d′ → d ≡ d′
+first-injective f s d d′ e = sym (s d) ∙ ap (λ (l : Lines). l .txd) e ∙ s d′
 
-pub bits-told : (f g : Bool → Lines) → Shows f → (t w v i n : ℕ) → bitLines f g t w i n ≡ bitLines f g t v i n → (k : ℕ) → k < n → bitOf t w (i + k) ≡ bitOf t v (i + k)
-bits-told f g s t w v i zero e k m = absurd (omega arith)
-bits-told f g s t w v i (suc n) e zero m =
+pub bits-injective : (f g : Bool → Lines) → Shows f → (t w v i n : ℕ) → bitLines f g t w i n ≡ bitLines f g t v i n → (k : ℕ) → k < n → bitOf t w (i + k) ≡ bitOf t v (i + k)
+bits-injective f g s t w v i zero e k m = absurd (omega arith)
+bits-injective f g s t w v i (suc n) e zero m =
     let z : i + 0 ≡ i = omega arith in
-    ap (bitOf t w) z ∙ first-told f s (bitOf t w i) (bitOf t v i) (cons-head e) ∙ ap (bitOf t v) (sym z)
-bits-told f g s t w v i (suc n) e (suc k) m =
+    ap (bitOf t w) z ∙ first-injective f s (bitOf t w i) (bitOf t v i) (cons-head e) ∙ ap (bitOf t v) (sym z)
+bits-injective f g s t w v i (suc n) e (suc k) m =
     let z : i + suc k ≡ i + 1 + k = omega arith in
-    ap (bitOf t w) z ∙ bits-told f g s t w v (i + 1) n (cons-tail (cons-tail e)) k (omega arith) ∙ ap (bitOf t v) (sym z)
+    ap (bitOf t w) z ∙ bits-injective f g s t w v (i + 1) n (cons-tail (cons-tail e)) k (omega arith) ∙ ap (bitOf t v) (sym z)
 
 -- all bits of a word
-pub word-told : (f g : Bool → Lines) → Shows f → (t w v : ℕ) → t ≤ 16 → bitLines f g t w 0 t ≡ bitLines f g t v 0 t → cut t w ≡ cut t v
-word-told f g s t w v m e =
-    cut-same t w v m (λ i l. ap (bitOf t w) (sym (zero-add i)) ∙ bits-told f g s t w v 0 t e i l ∙ ap (bitOf t v) (zero-add i))
+pub word-injective : (f g : Bool → Lines) → Shows f → (t w v : ℕ) → t ≤ 16 → bitLines f g t w 0 t ≡ bitLines f g t v 0 t → cut t w ≡ cut t v
+word-injective f g s t w v m e =
+    cut-same t w v m (λ i l. ap (bitOf t w) (sym (zero-add i)) ∙ bits-injective f g s t w v 0 t e i l ∙ ap (bitOf t v) (zero-add i))
 
 -- the first bits of a word, and its last one
-pub joined-told : (f g : Bool → Lines) → Shows f → (t w v : ℕ) → t ≤ 16 → 0 < t → bitLines f g t w 0 (t - 1) ≡ bitLines f g t v 0 (t - 1)
+pub joined-injective : (f g : Bool → Lines) → Shows f → (t w v : ℕ) → t ≤ 16 → 0 < t → bitLines f g t w 0 (t - 1) ≡ bitLines f g t v 0 (t - 1)
     → bitOf t w (t - 1) ≡ bitOf t v (t - 1) → cut t w ≡ cut t v
-joined-told f g s t w v m l e z =
+joined-injective f g s t w v m l e z =
     cut-same t w v m (λ i k. go i (decLt i (t - 1)) k)
   where
     go : (i : ℕ) → Dec (i < t - 1) → i < t → bitOf t w i ≡ bitOf t v i
-    go i (yes k) _ = ap (bitOf t w) (sym (zero-add i)) ∙ bits-told f g s t w v 0 (t - 1) e i k ∙ ap (bitOf t v) (zero-add i)
+    go i (yes k) _ = ap (bitOf t w) (sym (zero-add i)) ∙ bits-injective f g s t w v 0 (t - 1) e i k ∙ ap (bitOf t v) (zero-add i)
     go i (no n) k =
         let q : i ≡ t - 1 = omega arith in
         ap (bitOf t w) q ∙ z ∙ ap (bitOf t v) (sym q)
@@ -116,24 +116,24 @@ frame0-length s w =
     let y = low s false (bitOf (s .bits) w (s .bits - 1)) ∷ idle s ∷ idle s ∷ [] in
     omega (arith, length-append x y, length-bits (low s false) (low s true) (s .bits) w 0 (s .bits))
 
-frame0-told : (s : Settings) (w v : ℕ) → s .bits ≤ 16 → frame0 s w ≡ frame0 s v → cut (s .bits) w ≡ cut (s .bits) v
-frame0-told s w v m e =
+frame0-injective : (s : Settings) (w v : ℕ) → s .bits ≤ 16 → frame0 s w ≡ frame0 s v → cut (s .bits) w ≡ cut (s .bits) v
+frame0-injective s w v m e =
     let t = s .bits in
-    word-told (low s false) (low s true) (low-shows s false) t w v m
+    word-injective (low s false) (low s true) (low-shows s false) t w v m
     (append-left (bitLines (low s false) (low s true) t w 0 t) (bitLines (low s false) (low s true) t v 0 t) _ _
     (length-bits (low s false) (low s true) t w 0 t ∙ sym (length-bits (low s false) (low s true) t v 0 t)) (cons-tail e))
 
 pub nil-cons : {A B : Type 0} {x : A} {xs : List A} → [] ≡ (x ∷ xs) → B
 nil-cons {A} {B} {x} {xs} e = let z : 0 ≡ suc (length xs) = ap length e in absurd (omega arith)
 
-pub frames0-told : (s : Settings) → s .bits ≤ 16 → (ws vs : List ℕ) → frames0 s ws ≡ frames0 s vs → map (cut (s .bits)) ws ≡ map (cut (s .bits)) vs
-frames0-told s m [] [] e = refl
-frames0-told s m [] (v ∷ vs) e = nil-cons e
-frames0-told s m (w ∷ ws) [] e = nil-cons (sym e)
-frames0-told s m (w ∷ ws) (v ∷ vs) e =
+pub frames0-injective : (s : Settings) → s .bits ≤ 16 → (ws vs : List ℕ) → frames0 s ws ≡ frames0 s vs → map (cut (s .bits)) ws ≡ map (cut (s .bits)) vs
+frames0-injective s m [] [] e = refl
+frames0-injective s m [] (v ∷ vs) e = nil-cons e
+frames0-injective s m (w ∷ ws) [] e = nil-cons (sym e)
+frames0-injective s m (w ∷ ws) (v ∷ vs) e =
     let l : length (frame0 s w) ≡ length (frame0 s v) = frame0-length s w ∙ sym (frame0-length s v) in
-    ap₂ _∷_ (frame0-told s w v m (append-left (frame0 s w) (frame0 s v) (frames0 s ws) (frames0 s vs) l e))
-    (frames0-told s m ws vs (append-right (frame0 s w) (frame0 s v) (frames0 s ws) (frames0 s vs) l e))
+    ap₂ _∷_ (frame0-injective s w v m (append-left (frame0 s w) (frame0 s v) (frames0 s ws) (frames0 s vs) l e))
+    (frames0-injective s m ws vs (append-right (frame0 s w) (frame0 s v) (frames0 s ws) (frames0 s vs) l e))
 
 -- Motorola, SPH 1 ------------------------------------------------------------------------------------------------------
 
@@ -154,27 +154,27 @@ module _ (s : Settings) (m : s .bits ≤ 16) (k : 2 ≤ s .bits) where
   parts1 : (w v : ℕ) (a b : List Lines) → word1 w ++ a ≡ word1 v ++ b → (cut (s .bits) w ≡ cut (s .bits) v) × (a ≡ b)
   parts1 w v a b e =
       let l : length (word1 w) ≡ length (word1 v) = word1-length w ∙ sym (word1-length v) in (
-        word-told (low s true) (low s false) (low-shows s true) (s .bits) w v m (append-left (word1 w) (word1 v) a b l e),
+        word-injective (low s true) (low s false) (low-shows s true) (s .bits) w v m (append-left (word1 w) (word1 v) a b l e),
         append-right (word1 w) (word1 v) a b l e,
       )
 
-  chain1-told : (w v : ℕ) (ws vs : List ℕ) → chain1 s w ws ≡ chain1 s v vs → map (cut (s .bits)) (w ∷ ws) ≡ map (cut (s .bits)) (v ∷ vs)
-  chain1-told w v [] [] e = ap (λ (x : ℕ). x ∷ []) (parts1 w v (end1 w) (end1 v) e .0)
-  chain1-told w v [] (u ∷ us) e =
+  chain1-injective : (w v : ℕ) (ws vs : List ℕ) → chain1 s w ws ≡ chain1 s v vs → map (cut (s .bits)) (w ∷ ws) ≡ map (cut (s .bits)) (v ∷ vs)
+  chain1-injective w v [] [] e = ap (λ (x : ℕ). x ∷ []) (parts1 w v (end1 w) (end1 v) e .0)
+  chain1-injective w v [] (u ∷ us) e =
       let z : 3 ≡ length (chain1 s u us) = ap length (parts1 w v (end1 w) (chain1 s u us) e .1) in
       absurd (omega (arith, chain1-long u us))
-  chain1-told w v (u ∷ us) [] e =
+  chain1-injective w v (u ∷ us) [] e =
       let z : length (chain1 s u us) ≡ 3 = ap length (parts1 w v (chain1 s u us) (end1 v) e .1) in
       absurd (omega (arith, chain1-long u us))
-  chain1-told w v (u ∷ us) (x ∷ xs) e =
+  chain1-injective w v (u ∷ us) (x ∷ xs) e =
       let p = parts1 w v (chain1 s u us) (chain1 s x xs) e in
-      ap₂ _∷_ (p .0) (chain1-told u x us xs (p .1))
+      ap₂ _∷_ (p .0) (chain1-injective u x us xs (p .1))
 
-  pub frames1-told : (ws vs : List ℕ) → frames1 s ws ≡ frames1 s vs → map (cut (s .bits)) ws ≡ map (cut (s .bits)) vs
-  frames1-told [] [] e = refl
-  frames1-told [] (v ∷ vs) e = nil-cons e
-  frames1-told (w ∷ ws) [] e = nil-cons (sym e)
-  frames1-told (w ∷ ws) (v ∷ vs) e = chain1-told w v ws vs (cons-tail e)
+  pub frames1-injective : (ws vs : List ℕ) → frames1 s ws ≡ frames1 s vs → map (cut (s .bits)) ws ≡ map (cut (s .bits)) vs
+  frames1-injective [] [] e = refl
+  frames1-injective [] (v ∷ vs) e = nil-cons e
+  frames1-injective (w ∷ ws) [] e = nil-cons (sym e)
+  frames1-injective (w ∷ ws) (v ∷ vs) e = chain1-injective w v ws vs (cons-tail e)
 
 -- TI -------------------------------------------------------------------------------------------------------------------
 
@@ -196,7 +196,7 @@ module _ (s : Settings) (m : s .bits ≤ 16) (k : 2 ≤ s .bits) where
   partsT w v a a′ b b′ p q e =
       let l : length (bitsT w) ≡ length (bitsT v) = bitsT-length w ∙ sym (bitsT-length v) in
       let r = append-right (bitsT w) (bitsT v) (a ∷ b) (a′ ∷ b′) l e in (
-        joined-told (low s true) (low s false) (low-shows s true) (s .bits) w v m (omega arith) (append-left (bitsT w) (bitsT v) (a ∷ b) (a′ ∷ b′) l e)
+        joined-injective (low s true) (low s false) (low-shows s true) (s .bits) w v m (omega arith) (append-left (bitsT w) (bitsT v) (a ∷ b) (a′ ∷ b′) l e)
             (sym p ∙ ap (λ (x : Lines). x .txd) (cons-head r) ∙ q),
         cons-tail r,
       )
@@ -213,11 +213,11 @@ module _ (s : Settings) (m : s .bits ≤ 16) (k : 2 ≤ s .bits) where
       let p = partsT w v _ _ _ _ refl refl e in
       ap₂ _∷_ (p .0) (joined-words u x us xs (cons-tail (p .1)))
 
-  pub framesTi-told : (ws vs : List ℕ) → framesTi s ws ≡ framesTi s vs → map (cut (s .bits)) ws ≡ map (cut (s .bits)) vs
-  framesTi-told [] [] e = refl
-  framesTi-told [] (v ∷ vs) e = nil-cons e
-  framesTi-told (w ∷ ws) [] e = nil-cons (sym e)
-  framesTi-told (w ∷ ws) (v ∷ vs) e = joined-words w v ws vs (cons-tail (cons-tail e))
+  pub framesTi-injective : (ws vs : List ℕ) → framesTi s ws ≡ framesTi s vs → map (cut (s .bits)) ws ≡ map (cut (s .bits)) vs
+  framesTi-injective [] [] e = refl
+  framesTi-injective [] (v ∷ vs) e = nil-cons e
+  framesTi-injective (w ∷ ws) [] e = nil-cons (sym e)
+  framesTi-injective (w ∷ ws) (v ∷ vs) e = joined-words w v ws vs (cons-tail (cons-tail e))
 
 -- Microwire ------------------------------------------------------------------------------------------------------------
 
@@ -235,38 +235,38 @@ module _ (s : Settings) where
   chainM-long : (w : ℕ) (ws : List ℕ) → 3 < length (chainM s (w ∷ ws))
   chainM-long w ws = omega (arith, length-append (bitsM w) (quiets (s .bits + 1) ++ chainM s ws), bitsM-length w)
 
-  chainM-told : (ws vs : List ℕ) → chainM s ws ≡ chainM s vs → map (cut 8) ws ≡ map (cut 8) vs
-  chainM-told [] [] e = refl
-  chainM-told [] (v ∷ vs) e =
+  chainM-injective : (ws vs : List ℕ) → chainM s ws ≡ chainM s vs → map (cut 8) ws ≡ map (cut 8) vs
+  chainM-injective [] [] e = refl
+  chainM-injective [] (v ∷ vs) e =
       let z : 3 ≡ length (chainM s (v ∷ vs)) = ap length e in
       absurd (omega (arith, chainM-long v vs))
-  chainM-told (w ∷ ws) [] e =
+  chainM-injective (w ∷ ws) [] e =
       let z : length (chainM s (w ∷ ws)) ≡ 3 = ap length e in
       absurd (omega (arith, chainM-long w ws))
-  chainM-told (w ∷ ws) (v ∷ vs) e =
+  chainM-injective (w ∷ ws) (v ∷ vs) e =
       let q = quiets (s .bits + 1) in
       let l : length (bitsM w) ≡ length (bitsM v) = bitsM-length w ∙ sym (bitsM-length v) in
       ap₂ _∷_
-      (word-told (low s false) (low s true) (low-shows s false) 8 w v (omega arith) (append-left (bitsM w) (bitsM v) (q ++ chainM s ws) (q ++ chainM s vs) l e))
-      (chainM-told ws vs
+      (word-injective (low s false) (low s true) (low-shows s false) 8 w v (omega arith) (append-left (bitsM w) (bitsM v) (q ++ chainM s ws) (q ++ chainM s vs) l e))
+      (chainM-injective ws vs
       (append-right q q (chainM s ws) (chainM s vs) refl (append-right (bitsM w) (bitsM v) (q ++ chainM s ws) (q ++ chainM s vs) l e)))
 
-  pub framesM-told : (ws vs : List ℕ) → framesM s ws ≡ framesM s vs → map (cut 8) ws ≡ map (cut 8) vs
-  framesM-told [] [] e = refl
-  framesM-told [] (v ∷ vs) e =
+  pub framesM-injective : (ws vs : List ℕ) → framesM s ws ≡ framesM s vs → map (cut 8) ws ≡ map (cut 8) vs
+  framesM-injective [] [] e = refl
+  framesM-injective [] (v ∷ vs) e =
       let z : 0 ≡ length (chainM s (v ∷ vs)) = ap length e in
       absurd (omega (arith, chainM-long v vs))
-  framesM-told (w ∷ ws) [] e =
+  framesM-injective (w ∷ ws) [] e =
       let z : length (chainM s (w ∷ ws)) ≡ 0 = ap length e in
       absurd (omega (arith, chainM-long w ws))
-  framesM-told (w ∷ ws) (v ∷ vs) e = chainM-told (w ∷ ws) (v ∷ vs) e
+  framesM-injective (w ∷ ws) (v ∷ vs) e = chainM-injective (w ∷ ws) (v ∷ vs) e
 
 -- All formats ----------------------------------------------------------------------------------------------------------
 
-motorola-told : (s : Settings) (phase : Bool) → s .bits ≤ 16 → 2 ≤ s .bits → (ws vs : List ℕ)
+motorola-injective : (s : Settings) (phase : Bool) → s .bits ≤ 16 → 2 ≤ s .bits → (ws vs : List ℕ)
     → drawingOn Motorola phase s ws ≡ drawingOn Motorola phase s vs → map (cut (s .bits)) ws ≡ map (cut (s .bits)) vs
-motorola-told s true m k ws vs e = frames1-told s m k ws vs e
-motorola-told s false m k ws vs e = frames0-told s m ws vs e
+motorola-injective s true m k ws vs e = frames1-injective s m k ws vs e
+motorola-injective s false m k ws vs e = frames0-injective s m ws vs e
 
 -- FRF is not the reserved one.
 abbrev pub Serves : Format → Type 0
@@ -274,9 +274,9 @@ Serves f = f ≡ Reserved → ⊥
 
 told-on : (f : Format) → Serves f → (s : Settings) → s .bits ≤ 16 → 2 ≤ s .bits → (ws vs : List ℕ)
     → drawingOn f (s .phase) s ws ≡ drawingOn f (s .phase) s vs → map (cut (widthOn f (s .bits))) ws ≡ map (cut (widthOn f (s .bits))) vs
-told-on Motorola r s m k ws vs e = motorola-told s (s .phase) m k ws vs e
-told-on Ti r s m k ws vs e = framesTi-told s m k ws vs e
-told-on Microwire r s m k ws vs e = framesM-told s ws vs e
+told-on Motorola r s m k ws vs e = motorola-injective s (s .phase) m k ws vs e
+told-on Ti r s m k ws vs e = framesTi-injective s m k ws vs e
+told-on Microwire r s m k ws vs e = framesM-injective s ws vs e
 told-on Reserved r s m k ws vs e = absurd (r refl)
 
 -- Two loads with the same drawing are equal after cutting to b bits, Microwire to 8.
@@ -314,25 +314,25 @@ byte-back false false false true = refl
 byte-back false false false false = refl
 
 -- An output byte tells its lines.
-pub byte-told : (l k : Lines) → byteOf l ≡ byteOf k → l ≡ k
-byte-told l k e =
+pub byte-injective : (l k : Lines) → byteOf l ≡ byteOf k → l ≡ k
+byte-injective l k e =
     sym (byte-back (l .clk) (l .fss) (l .txd) (l .released)) ∙ ap linesAt e ∙ byte-back (k .clk) (k .fss) (k .txd) (k .released)
 
-pub bytes-told : (ls ks : List Lines) → map byteOf ls ≡ map byteOf ks → ls ≡ ks
-bytes-told [] [] e = refl
-bytes-told [] (k ∷ ks) e = nil-cons e
-bytes-told (l ∷ ls) [] e = nil-cons (sym e)
-bytes-told (l ∷ ls) (k ∷ ks) e = ap₂ _∷_ (byte-told l k (cons-head e)) (bytes-told ls ks (cons-tail e))
+pub bytes-injective : (ls ks : List Lines) → map byteOf ls ≡ map byteOf ks → ls ≡ ks
+bytes-injective [] [] e = refl
+bytes-injective [] (k ∷ ks) e = nil-cons e
+bytes-injective (l ∷ ls) [] e = nil-cons (sym e)
+bytes-injective (l ∷ ls) (k ∷ ks) e = ap₂ _∷_ (byte-injective l k (cons-head e)) (bytes-injective ls ks (cons-tail e))
 
 -- Slots of h cycles tell the slots.
-pub stretch-told : (h : ℕ) → 0 < h → (ls ks : List Lines) → stretch h ls ≡ stretch h ks → ls ≡ ks
-stretch-told zero z ls ks e = absurd (omega arith)
-stretch-told (suc j) z [] [] e = refl
-stretch-told (suc j) z [] (k ∷ ks) e = nil-cons e
-stretch-told (suc j) z (l ∷ ls) [] e = nil-cons (sym e)
-stretch-told (suc j) z (l ∷ ls) (k ∷ ks) e =
+pub stretch-injective : (h : ℕ) → 0 < h → (ls ks : List Lines) → stretch h ls ≡ stretch h ks → ls ≡ ks
+stretch-injective zero z ls ks e = absurd (omega arith)
+stretch-injective (suc j) z [] [] e = refl
+stretch-injective (suc j) z [] (k ∷ ks) e = nil-cons e
+stretch-injective (suc j) z (l ∷ ls) [] e = nil-cons (sym e)
+stretch-injective (suc j) z (l ∷ ls) (k ∷ ks) e =
     ap₂ _∷_ (cons-head e)
-    (stretch-told (suc j) z ls ks
+    (stretch-injective (suc j) z ls ks
     (append-right (replicate j l) (replicate j k) (stretch (suc j) ls) (stretch (suc j) ks) (length-replicate j l ∙ sym (length-replicate j k)) (cons-tail e)))
 
 pub length-stretch : (h : ℕ) (ls : List Lines) → length (stretch h ls) ≡ length ls * h
@@ -387,7 +387,7 @@ length-none s Ti phase = refl
 length-none s Microwire phase = refl
 length-none s Reserved phase = refl
 
-pub length-drawing : (s : Settings) → 0 < s .bits → (ws : List ℕ) → length (drawing s ws) ≡ slotTotal s (length ws)
+pub length-drawing : (s : Settings) → 0 < s .bits → (ws : List ℕ) → length (drawing s ws) ≡ slotTotal s (length ws) .0
 unfolding drawing slotTotal
 length-drawing s k [] = length-none s (s .format) (s .phase)
 length-drawing s k (w ∷ ws) = length-some s k (s .format) w ws

@@ -15,7 +15,7 @@ use Rattle.serial.specs.Bits.{bitOf, cut}
 use Rattle.serial.specs.Slots.{widthOf}
 use Rattle.serial.specs.Lines.{idleOn}
 use Rattle.serial.specs.Drawing.{slotTotal, totalOn, low, idle, bitLines, frame0, frames0, chain1, joined, quiet, quiets, chainM, drawingOn, drawing, stretch}
-use Rattle.serial.proofs.Drawing.Told.{Serves, cons-tail, cons-head, nil-cons, append-left, idle-released, told, stretch-told, length-stretch, length-drawing}
+use Rattle.serial.proofs.Drawing.Told.{Serves, cons-tail, cons-head, nil-cons, append-left, idle-released, told, stretch-injective, length-stretch, length-drawing}
 use Rattle.serial.specs.declared.lines.Lines.{Lines}
 
 -- Behind the list A all entries are x.
@@ -123,18 +123,18 @@ next-on Microwire r phase b n l = omega arith
 next-on Reserved r phase b n l = absurd (r refl)
 
 module _ (s : Settings) (r : Serves (s .format)) (two : 2 ≤ s .bits) where
-  grows : (n : ℕ) → slotTotal s n + 3 ≤ slotTotal s (suc n)
+  grows : (n : ℕ) → slotTotal s n .0 + 3 ≤ slotTotal s (suc n) .0
   unfolding slotTotal
   grows zero = omega (arith, first-on (s .format) r (s .phase) (s .bits) two)
   grows (suc n) = next-on (s .format) r (s .phase) (s .bits) n two
 
-  apart : (d n m : ℕ) → m ≡ suc (d + n) → slotTotal s n + 3 ≤ slotTotal s m
+  apart : (d n m : ℕ) → m ≡ suc (d + n) → slotTotal s n .0 + 3 ≤ slotTotal s m .0
   apart zero n m e =
       let q : suc n ≡ m = omega (arith, e) in
-      subst (λ (z : ℕ). slotTotal s n + 3 ≤ slotTotal s z) q (grows n)
+      subst (λ (z : ℕ). slotTotal s n .0 + 3 ≤ slotTotal s z .0) q (grows n)
   apart (suc d) n m e =
       let q : suc (suc (d + n)) ≡ m = omega (arith, e) in
-      subst (λ (z : ℕ). slotTotal s n + 3 ≤ slotTotal s z) q (omega (arith, apart d n (suc (d + n)) refl, grows (suc (d + n))))
+      subst (λ (z : ℕ). slotTotal s n .0 + 3 ≤ slotTotal s z .0) q (omega (arith, apart d n (suc (d + n)) refl, grows (suc (d + n))))
 
 -- Two windows ------------------------------------------------------------------------------------------------------------
 
@@ -142,29 +142,29 @@ pub stretch-append : (h : ℕ) (ls ks : List Lines) → stretch h (ls ++ ks) ≡
 stretch-append h [] ks = refl
 stretch-append h (l ∷ ls) ks = ap (λ (z : List Lines). replicate h l ++ z) (stretch-append h ls ks) ∙ sym (append-assoc (replicate h l) (stretch h ls) (stretch h ks))
 
-module _ (s : Settings) (r : Serves (s .format)) (two : 2 ≤ s .bits) (h : 0 < s .half) where
+module _ (s : Settings) (r : Serves (s .format)) (two : 2 ≤ s .bits) (h : 0 < s .divisor .0) where
   -- the longer load shows an entry where the shorter one is over
   longer : (ws vs : List ℕ) (j k : ℕ) → length ws < length vs
-      → stretch (s .half) (drawing s ws) ++ replicate j (idle s) ≡ stretch (s .half) (drawing s vs) ++ replicate k (idle s) → ⊥
+      → stretch (s .divisor .0) (drawing s ws) ++ replicate j (idle s) ≡ stretch (s .divisor .0) (drawing s vs) ++ replicate k (idle s) → ⊥
   longer ws [] j k l e = absurd (omega arith)
-  longer ws (v ∷ vs) j k l e = c .shown (behind (stretch (s .half) (drawing s ws)) j (idle s) (stretch (s .half) (c .front)) (c .mark) _ (e ∙ parted) room)
+  longer ws (v ∷ vs) j k l e = c .shown (behind (stretch (s .divisor .0) (drawing s ws)) j (idle s) (stretch (s .divisor .0) (c .front)) (c .mark) _ (e ∙ parted) room)
     where
       c : Closing s (drawing s (v ∷ vs))
       c = closing s r v vs
 
       i : ℕ
-      i = s .half - 1
+      i = s .divisor .0 - 1
 
-      half : suc i ≡ s .half
-      half = omega (arith, h)
+      whole : suc i ≡ s .divisor .0
+      whole = omega (arith, h)
 
-      parted : stretch (s .half) (drawing s (v ∷ vs)) ++ replicate k (idle s)
-          ≡ stretch (s .half) (c .front) ++ (c .mark ∷ ((replicate i (c .mark) ++ stretch (s .half) (c .back)) ++ replicate k (idle s)))
+      parted : stretch (s .divisor .0) (drawing s (v ∷ vs)) ++ replicate k (idle s)
+          ≡ stretch (s .divisor .0) (c .front) ++ (c .mark ∷ ((replicate i (c .mark) ++ stretch (s .divisor .0) (c .back)) ++ replicate k (idle s)))
       parted =
-          ap (λ (z : List Lines). stretch (s .half) z ++ replicate k (idle s)) (sym (c .whole))
-          ∙ ap (λ (z : List Lines). z ++ replicate k (idle s)) (stretch-append (s .half) (c .front) (c .mark ∷ c .back))
-          ∙ append-assoc (stretch (s .half) (c .front)) (replicate (s .half) (c .mark) ++ stretch (s .half) (c .back)) (replicate k (idle s))
-          ∙ ap (λ (n : ℕ). stretch (s .half) (c .front) ++ ((replicate n (c .mark) ++ stretch (s .half) (c .back)) ++ replicate k (idle s))) (sym half)
+          ap (λ (z : List Lines). stretch (s .divisor .0) z ++ replicate k (idle s)) (sym (c .whole))
+          ∙ ap (λ (z : List Lines). z ++ replicate k (idle s)) (stretch-append (s .divisor .0) (c .front) (c .mark ∷ c .back))
+          ∙ append-assoc (stretch (s .divisor .0) (c .front)) (replicate (s .divisor .0) (c .mark) ++ stretch (s .divisor .0) (c .back)) (replicate k (idle s))
+          ∙ ap (λ (n : ℕ). stretch (s .divisor .0) (c .front) ++ ((replicate n (c .mark) ++ stretch (s .divisor .0) (c .back)) ++ replicate k (idle s))) (sym whole)
 
       slots : length (drawing s ws) ≤ length (c .front)
       slots =
@@ -179,14 +179,14 @@ module _ (s : Settings) (r : Serves (s .format)) (two : 2 ≤ s .bits) (h : 0 < 
             c .short,
           )
 
-      room : length (stretch (s .half) (drawing s ws)) ≤ length (stretch (s .half) (c .front))
-      room = omega (arith, length-stretch (s .half) (drawing s ws), length-stretch (s .half) (c .front), mul-le-mul-right {m = length (drawing s ws)} {n = length (c .front)} (s .half) slots)
+      room : length (stretch (s .divisor .0) (drawing s ws)) ≤ length (stretch (s .divisor .0) (c .front))
+      room = omega (arith, length-stretch (s .divisor .0) (drawing s ws), length-stretch (s .divisor .0) (c .front), mul-le-mul-right {m = length (drawing s ws)} {n = length (c .front)} (s .divisor .0) slots)
 
   -- Two loads that show the same from enabling on, as long as one looks past both, are equal after cutting to b bits, Microwire to 8.
-  pub window-told : s .bits ≤ 16 → (ws vs : List ℕ) (j k : ℕ)
-      → stretch (s .half) (drawing s ws) ++ replicate j (idle s) ≡ stretch (s .half) (drawing s vs) ++ replicate k (idle s)
+  pub window-injective : s .bits ≤ 16 → (ws vs : List ℕ) (j k : ℕ)
+      → stretch (s .divisor .0) (drawing s ws) ++ replicate j (idle s) ≡ stretch (s .divisor .0) (drawing s vs) ++ replicate k (idle s)
       → map (cut (widthOf s)) ws ≡ map (cut (widthOf s)) vs
-  window-told m ws vs j k e = go (ltb (length ws) (length vs)) (ltb (length vs) (length ws)) refl refl
+  window-injective m ws vs j k e = go (ltb (length ws) (length vs)) (ltb (length vs) (length ws)) refl refl
     where
       go : (a b : Bool) → ltb (length ws) (length vs) ≡ a → ltb (length vs) (length ws) ≡ b → map (cut (widthOf s)) ws ≡ map (cut (widthOf s)) vs
       go true b p q = absurd (longer ws vs j k (ltb-true (length ws) (length vs) p) e)
@@ -194,8 +194,8 @@ module _ (s : Settings) (r : Serves (s .format)) (two : 2 ≤ s .bits) (h : 0 < 
       go false false p q =
           let n : length ws ≡ length vs = omega (arith, ltb-false (length ws) (length vs) p, ltb-false (length vs) (length ws) q) in
           let l : length (drawing s ws) ≡ length (drawing s vs) =
-          length-drawing s (omega (arith, two)) ws ∙ ap (slotTotal s) n ∙ sym (length-drawing s (omega (arith, two)) vs) in
+          length-drawing s (omega (arith, two)) ws ∙ ap (λ (z : ℕ). slotTotal s z .0) n ∙ sym (length-drawing s (omega (arith, two)) vs) in
           told s r m two ws vs
-          (stretch-told (s .half) h (drawing s ws) (drawing s vs)
-          (append-left (stretch (s .half) (drawing s ws)) (stretch (s .half) (drawing s vs)) (replicate j (idle s)) (replicate k (idle s))
-          (length-stretch (s .half) (drawing s ws) ∙ ap (λ (i : ℕ). i * s .half) l ∙ sym (length-stretch (s .half) (drawing s vs))) e))
+          (stretch-injective (s .divisor .0) h (drawing s ws) (drawing s vs)
+          (append-left (stretch (s .divisor .0) (drawing s ws)) (stretch (s .divisor .0) (drawing s vs)) (replicate j (idle s)) (replicate k (idle s))
+          (length-stretch (s .divisor .0) (drawing s ws) ∙ ap (λ (i : ℕ). i * s .divisor .0) l ∙ sym (length-stretch (s .divisor .0) (drawing s vs))) e))

@@ -9,15 +9,16 @@ use native.Mathlib.Nat.{add-mul, le-refl}
 use lib.Dec.{ltb, eqb}
 use lib.ListN.{length, take, replicate}
 use Rattle.registers.specs.Flags.{busyOf}
+use Rattle.registers.specs.Time.{cycles, slots, divisor, cyclesOf}
 use Rattle.registers.specs.Settings.{settingsOf, enabledOf, permittedOf, bitsOf}
-use Rattle.registers.proofs.Soundness.{sound-told, bits-least, bits-most}
+use Rattle.registers.proofs.Soundness.{sound-elim, bits-least, bits-most}
 use Rattle.registers.specs.Access.{writeModel}
 use Rattle.registers.specs.Transfer.{waitingOf, nextWord}
 use Rattle.registers.specs.declared.Control.{Control}
 use Rattle.registers.specs.declared.settings.Format.{Format}
 use Rattle.registers.specs.declared.settings.Format.the-variants.{Motorola, Ti, Microwire, Reserved}
 use Rattle.registers.specs.declared.settings.Settings.{Settings}
-use Rattle.serial.specs.Engine.{cleared, still}
+use Rattle.serial.specs.Engine.{cleared, noWord}
 use Rattle.serial.specs.Lines.{idleOn, linesOf, masterLines, slaveLines, differ}
 use Rattle.serial.specs.Slave.{slaveStep, motorolaSlave, tiSlave}
 use Rattle.serial.specs.Cycle.{DeviceModel, deviceStep, stepOf}
@@ -26,7 +27,7 @@ use Rattle.serial.proofs.Cycles.{control-cycle, step-stopped}
 use Rattle.serial.specs.Access.{writeDevice}
 use Rattle.serial.proofs.Soundness.{sound-registers}
 use Rattle.serial.specs.Drawing.{slotTotal}
-use Rattle.serial.specs.Pair.{wire, PairModel, pairCycle, later}
+use Rattle.serial.specs.Pair.{wire, PairModel, pairCycle, pairRun}
 use Rattle.serial.proofs.Exchange.Trace.{iterate}
 use Rattle.serial.specs.Bits.{cut}
 use Rattle.serial.proofs.Exchange.Core as Core
@@ -61,10 +62,10 @@ paired-next g P =
     }
 
 projected : {f : Format} {phase p : Bool} {b h k : ℕ} {o : Bool} (n : ℕ) (g : PairModel) (l j : List ℕ) → Paired f phase p b h k o g
-    → coreOf (turns f p) (l ++ received master n g) (j ++ received slave n g) (later n g) ≡ iterate n (coreCycle (plain f phase b h false) (plain f phase b h true)) (coreOf (turns f p) l j g)
+    → coreOf (turns f p) (l ++ received master n g) (j ++ received slave n g) (pairRun n g) ≡ iterate n (coreCycle (plain f phase b h false) (plain f phase b h true)) (coreOf (turns f p) l j g)
 projected {f = f} {p = p} zero g l j P = ap₂ (λ (x y : List ℕ). coreOf (turns f p) x y g) (append-nil l) (append-nil j)
 projected {f = f} {phase = phase} {p = p} {b = b} {h = h} (suc n) g l j P =
-    ap₂ (λ (x y : List ℕ). coreOf (turns f p) x y (later n (pairCycle g))) (sym (append-assoc l (completed master g) (received master n (pairCycle g)))) (sym (append-assoc j (completed slave g) (received slave n (pairCycle g))))
+    ap₂ (λ (x y : List ℕ). coreOf (turns f p) x y (pairRun n (pairCycle g))) (sym (append-assoc l (completed master g) (received master n (pairCycle g)))) (sym (append-assoc j (completed slave g) (received slave n (pairCycle g))))
     ∙ projected n (pairCycle g) (l ++ completed master g) (j ++ completed slave g) (paired-next g P)
     ∙ ap (iterate n (coreCycle (plain f phase b h false) (plain f phase b h true))) (commutes g P l j)
 
@@ -107,7 +108,8 @@ answers-due ws vs = go ws (length ws) vs (omega arith)
     go (w ∷ ws) (suc k) (v ∷ vs) l = ap (λ (t : List ℕ). v ∷ t) (go ws (suc k) vs (omega arith))
 
 figure-of : {f : Format} → Serial f → (phase : Bool) (b h : ℕ) (X : Exchange (plain f phase b h false) (plain f phase b h true) b (restLines f) (slotsOf f phase b) (quitsOf f)) (L : Lawful (plain f phase b h true)) (k : 6 ≤ h) (ws : List ℕ)
-    → busyCycles X L k ws ≡ busyFor f phase b h (length ws)
+    → busyCycles X L k ws ≡ busyFor f phase b (divisor h) (length ws) .0
+unfolding cyclesOf
 figure-of motorola false b h X L k [] = refl
 figure-of motorola true b h X L k [] = refl
 figure-of ti phase b h X L k [] = refl
@@ -118,8 +120,8 @@ figure-of ti phase b h X L k (w ∷ ws) = omega arith
 more-slots : (n h : ℕ) → 6 ≤ h → n * h + 1 ≤ (n + 2) * h
 more-slots n h k = let e : (n + 2) * h ≡ n * h + 2 * h = add-mul n 2 h in omega arith
 
-figure-bound : {f : Format} → Serial f → (phase p : Bool) (b h : ℕ) (o : Bool) (n : ℕ) → 6 ≤ h → busyFor f phase b h n ≤ slotTotal (given f phase p b h false o) n * h
-unfolding slotTotal
+figure-bound : {f : Format} → Serial f → (phase p : Bool) (b h : ℕ) (o : Bool) (n : ℕ) → 6 ≤ h → busyFor f phase b (divisor h) n .0 ≤ cyclesOf (slotTotal (given f phase p b h false o) n) (divisor h) .0
+unfolding slotTotal cyclesOf
 figure-bound motorola false p b h o zero k = omega arith
 figure-bound motorola true p b h o zero k = omega arith
 figure-bound ti phase p b h o zero k = omega arith
@@ -178,21 +180,21 @@ module _ {f : Format} (S : Serial f) (phase p : Bool) (b h k : ℕ) (o : Bool) (
   abbrev start : Pair
   start = rested (starts (restLines f) (holding (load master g) (rxOf (g .first .registers) []) (load slave g) (rxOf (g .second .registers) [])))
 
-  run-of : (i : ℕ) → coreOf (turns f p) (received master i g) (received slave i g) (later i g) ≡ iterate i (coreCycle (plain f phase b h false) (plain f phase b h true)) start
+  run-of : (i : ℕ) → coreOf (turns f p) (received master i g) (received slave i g) (pairRun i g) ≡ iterate i (coreCycle (plain f phase b h false) (plain f phase b h true)) start
   run-of i = projected i g [] [] P ∙ ap (iterate i (coreCycle (plain f phase b h false) (plain f phase b h true))) core-start
 
   abbrev until : ℕ
   until = busyCycles X W slow (load master g)
 
-  busy-of : (i : ℕ) (t : Bool) → Core.busy (iterate i (coreCycle (plain f phase b h false) (plain f phase b h true)) start .m) ≡ t → busy master (later i g) ≡ t
+  busy-of : (i : ℕ) (t : Bool) → Core.busy (iterate i (coreCycle (plain f phase b h false) (plain f phase b h true)) start .m) ≡ t → busy master (pairRun i g) ≡ t
   unfolding busyOf busyDevice
   busy-of i t e = ap (λ (c : Pair). Core.busy (c .m)) (run-of i) ∙ e
 
   held-small₁ : length (held master g) ≤ 8
-  held-small₁ = sound-told (g .first .registers) (sound-registers (g .first) (L .sound₁)) .rx
+  held-small₁ = sound-elim (g .first .registers) (sound-registers (g .first) (L .sound₁)) .rx
 
   held-small₂ : length (held slave g) ≤ 8
-  held-small₂ = sound-told (g .second .registers) (sound-registers (g .second) (L .sound₂)) .rx
+  held-small₂ = sound-elim (g .second .registers) (sound-registers (g .second) (L .sound₂)) .rx
 
   master-gets : (j : ℕ) → Received b (until + j) master g
   master-gets j =
@@ -217,10 +219,10 @@ module _ {f : Format} (S : Serial f) (phase p : Bool) (b h k : ℕ) (o : Bool) (
   exchanged-at =
       let e = figure-of S phase b h X W slow (load master g) in
       record {
-        at = until;
-        figure = e ∙ ap (λ (s : Settings). busyFor (s .format) (s .phase) (s .bits) (s .half) (length (load master g))) (sym (P .master));
-        bound = subst (λ (s : Settings). until ≤ slotTotal s (length (load master g)) * s .half) (sym (P .master))
-            (subst (λ (x : ℕ). x ≤ slotTotal (given f phase p b h false o) (length (load master g)) * h) (sym e) (figure-bound S phase p b h o (length (load master g)) slow));
+        at = cycles until;
+        figure = ap cycles e ∙ ap (λ (s : Settings). busyFor (s .format) (s .phase) (s .bits) (s .divisor) (length (load master g))) (sym (P .master));
+        bound = subst (λ (s : Settings). until ≤ cyclesOf (slotTotal s (length (load master g))) (s .divisor) .0) (sym (P .master))
+            (subst (λ (x : ℕ). x ≤ cyclesOf (slotTotal (given f phase p b h false o) (length (load master g))) (divisor h) .0) (sym e) (figure-bound S phase p b h o (length (load master g)) slow));
         busy-before = λ i l. busy-of i true (stays-busy X W slow (load master g) q₁ (load slave g) q₂ i l);
         free = busy-of until false (gets-free X W slow (load master g) q₁ (load slave g) q₂);
         master-received = λ j. subst (λ (s : Settings). Received (s .bits) (until + j) master g) (sym (P .master)) (master-gets j);
@@ -229,15 +231,15 @@ module _ {f : Format} (S : Serial f) (phase p : Bool) (b h k : ℕ) (o : Bool) (
 
 -- The way there --------------------------------------------------------------------------------------------------------
 
--- a still slave: enabled, clear, and all that it sees is the master's idle lines
-quiet-slave : {f : Format} → Serial f → (phase p : Bool) (b k n : ℕ) → slaveStep (given f phase p b k true false) cleared (wire (idleOn f p)) (wire (idleOn f p)) n ≡ still cleared
+-- a quiet slave: enabled, clear, and all that it sees is the master's idle lines
+quiet-slave : {f : Format} → Serial f → (phase p : Bool) (b k n : ℕ) → slaveStep (given f phase p b k true false) cleared (wire (idleOn f p)) (wire (idleOn f p)) n ≡ noWord cleared
 unfolding slaveStep motorolaSlave tiSlave wire
 quiet-slave motorola phase p b k n = refl
 quiet-slave ti phase p b k n = refl
 
 -- settings with everything named, enabled or not
 abbrev named : Format → Bool → Bool → ℕ → ℕ → Bool → Bool → Bool → Settings
-named f phase p b h role o on = record { format = f; phase = phase; polarity = p; bits = b; half = h; slave = role; silent = o; loopback = false; enabled = on }
+named f phase p b h role o on = record { format = f; phase = phase; polarity = p; bits = b; divisor = divisor h; slave = role; sod = o; loopback = false; enabled = on }
 
 idle-master : (f : Format) (phase p : Bool) (b h : ℕ) (o on : Bool) → linesOf (named f phase p b h false o on) cleared ≡ idleOn f p
 unfolding linesOf masterLines
@@ -265,7 +267,7 @@ unfolding writeDevice
 control-written d o v = refl
 
 slave-still : {f : Format} → Serial f → (phase p : Bool) (b k : ℕ) (d : DeviceModel) (x : Pins) → settingsOf (d .registers .control) ≡ given f phase p b k true false → d .engine ≡ cleared
-    → d .pins .oldest ≡ wire (idleOn f p) → d .pins .middle ≡ wire (idleOn f p) → deviceStep d x ≡ still cleared
+    → d .pins .oldest ≡ wire (idleOn f p) → d .pins .middle ≡ wire (idleOn f p) → deviceStep d x ≡ noWord cleared
 unfolding deviceStep stepOf
 slave-still {f = f} S phase p b k d x s e u v =
     ap₂ (λ (s : Settings) (e : Engine). stepOf s e (d .pins) x (waitingOf (d .registers)) (nextWord (d .registers))) s e
@@ -291,7 +293,7 @@ module _ (p : PairModel) (st : Start p) where
   s₁ = settingsOf (controlOf master p)
 
   abbrev k₂ : ℕ
-  k₂ = settingsOf (controlOf slave p) .half
+  k₂ = settingsOf (controlOf slave p) .divisor .0
 
   serial-here : Serial (settingsOf (controlOf master p) .format)
   serial-here = serial-of _ (st .serial)
@@ -303,25 +305,25 @@ module _ (p : PairModel) (st : Start p) where
   off₂ = sym (enabled-is (controlOf slave p)) ∙ st .off-slave
 
   small₁ : controlOf master p .cr1 ≤ 15
-  small₁ = sound-told (p .first .registers) (sound-registers (p .first) (st .sound-master)) .control .cr1
+  small₁ = sound-elim (p .first .registers) (sound-registers (p .first) (st .sound-master)) .control .cr1
 
   small₂ : controlOf slave p .cr1 ≤ 15
-  small₂ = sound-told (p .second .registers) (sound-registers (p .second) (st .sound-slave)) .control .cr1
+  small₂ = sound-elim (p .second .registers) (sound-registers (p .second) (st .sound-slave)) .control .cr1
 
   -- the settings of both, off and on
-  set₁ : settingsOf (controlOf master p) ≡ named (s₁ .format) (s₁ .phase) (s₁ .polarity) (s₁ .bits) (s₁ .half) false (s₁ .silent) false
-  set₁ = λ t. record { format = s₁ .format; phase = s₁ .phase; polarity = s₁ .polarity; bits = s₁ .bits; half = s₁ .half; slave = st .is-master t; silent = s₁ .silent; loopback = st .straight-master t; enabled = st .off-master t }
+  set₁ : settingsOf (controlOf master p) ≡ named (s₁ .format) (s₁ .phase) (s₁ .polarity) (s₁ .bits) (s₁ .divisor .0) false (s₁ .sod) false
+  set₁ = λ t. record { format = s₁ .format; phase = s₁ .phase; polarity = s₁ .polarity; bits = s₁ .bits; divisor = s₁ .divisor; slave = st .is-master t; sod = s₁ .sod; loopback = st .straight-master t; enabled = st .off-master t }
 
   set₂ : settingsOf (controlOf slave p) ≡ named (s₁ .format) (s₁ .phase) (s₁ .polarity) (s₁ .bits) k₂ true false false
-  set₂ = λ t. record { format = st .format t; phase = st .phase t; polarity = st .polarity t; bits = st .size t; half = k₂; slave = st .is-slave t; silent = st .output t; loopback = st .straight-slave t; enabled = st .off-slave t }
+  set₂ = λ t. record { format = st .format t; phase = st .phase t; polarity = st .polarity t; bits = st .size t; divisor = divisor k₂; slave = st .is-slave t; sod = st .output t; loopback = st .straight-slave t; enabled = st .off-slave t }
 
-  on₁ : settingsOf (switchedOn (controlOf master p)) ≡ given (s₁ .format) (s₁ .phase) (s₁ .polarity) (s₁ .bits) (s₁ .half) false (s₁ .silent)
+  on₁ : settingsOf (switchedOn (controlOf master p)) ≡ given (s₁ .format) (s₁ .phase) (s₁ .polarity) (s₁ .bits) (s₁ .divisor .0) false (s₁ .sod)
   on₁ = settings-on (controlOf master p) small₁ off₁
-      ∙ (λ t. record { format = s₁ .format; phase = s₁ .phase; polarity = s₁ .polarity; bits = s₁ .bits; half = s₁ .half; slave = st .is-master t; silent = s₁ .silent; loopback = st .straight-master t; enabled = true })
+      ∙ (λ t. record { format = s₁ .format; phase = s₁ .phase; polarity = s₁ .polarity; bits = s₁ .bits; divisor = s₁ .divisor; slave = st .is-master t; sod = s₁ .sod; loopback = st .straight-master t; enabled = true })
 
   on₂ : settingsOf (switchedOn (controlOf slave p)) ≡ given (s₁ .format) (s₁ .phase) (s₁ .polarity) (s₁ .bits) k₂ true false
   on₂ = settings-on (controlOf slave p) small₂ off₂
-      ∙ (λ t. record { format = st .format t; phase = st .phase t; polarity = st .polarity t; bits = st .size t; half = k₂; slave = st .is-slave t; silent = st .output t; loopback = st .straight-slave t; enabled = true })
+      ∙ (λ t. record { format = st .format t; phase = st .phase t; polarity = st .polarity t; bits = st .size t; divisor = divisor k₂; slave = st .is-slave t; sod = st .output t; loopback = st .straight-slave t; enabled = true })
 
   abbrev i : Lines
   i = idleOn (settingsOf (controlOf master p) .format) (settingsOf (controlOf master p) .polarity)
@@ -388,6 +390,6 @@ pub demand3 : Demand3
 demand3 p pre mid st four z z′ =
     let l = lead-master p st pre mid four z z′ in
     let s = settingsOf (controlOf master p) in
-    exchanged-at (serial-here p st) (s .phase) (s .polarity) (s .bits) (s .half) (settingsOf (controlOf slave p) .half) (s .silent) _ _ _ (masterOn pre mid p)
+    exchanged-at (serial-here p st) (s .phase) (s .polarity) (s .bits) (s .divisor .0) (settingsOf (controlOf slave p) .divisor .0) (s .sod) _ _ _ (masterOn pre mid p)
     (record { serial = serial-here p st; master = ap settingsOf (l .control₁) ∙ on₁ p st; slave = ap settingsOf (l .control₂) ∙ on₂ p st })
-    l (omega arith) (subst (λ (n : ℕ). 4 ≤ n) (sym (bits-are (controlOf master p))) (bits-least _ (st .permitted-master))) (subst (λ (n : ℕ). n ≤ 16) (sym (bits-are (controlOf master p))) (bits-most _)) (st .half)
+    l (omega arith) (subst (λ (n : ℕ). 4 ≤ n) (sym (bits-are (controlOf master p))) (bits-least _ (st .permitted-master))) (subst (λ (n : ℕ). n ≤ 16) (sym (bits-are (controlOf master p))) (bits-most _)) (st .divisor)

@@ -6,7 +6,7 @@ use lib.Dec.{ltb, eqb}
 use lib.ListN.{length, getD}
 use Rattle.registers.specs.Transfer.{added, rest}
 use Rattle.registers.specs.Choose.{pick}
-use Rattle.registers.specs.Time.{cycles, slots}
+use Rattle.registers.specs.Time.{cycles, slots, divisor}
 use Rattle.registers.specs.declared.settings.Format.{Format}
 use Rattle.registers.specs.declared.settings.Settings.{Settings}
 use Rattle.serial.specs.Engine.{cleared}
@@ -40,7 +40,7 @@ pub record Side : Type 0 where
 -- settings with SPO 0, enabled, loopback off, output on
 abbrev pub plain : Format → Bool → ℕ → ℕ → Bool → Settings
 plain f phase b h slave =
-    record { format = f; phase = phase; polarity = false; bits = b; half = h; slave = slave; silent = false; loopback = false; enabled = true }
+    record { format = f; phase = phase; polarity = false; bits = b; divisor = divisor h; slave = slave; sod = false; loopback = false; enabled = true }
 
 -- a step with its words moved
 abbrev pub moved : Step → Side → Lines → Side

@@ -8,8 +8,8 @@ use lib.Dec.{leb, eqb}
 use borrow.Author.Tests.{eq-eqb, ne-eqb, lt-leb, eqb-false}
 use Rattle.registers.specs.Choose.{pick, bitAt}
 use Rattle.registers.specs.Model.{Model}
-use Rattle.registers.specs.Offsets.{placeOf}
-use Rattle.registers.specs.Settings.{settingsOf, enabledOf, permittedOf, halfOf}
+use Rattle.registers.specs.Offsets.{registerOf}
+use Rattle.registers.specs.Settings.{settingsOf, enabledOf, permittedOf, divisorOf}
 use Rattle.registers.specs.Access.{writeModel, writeRefusal, cr1Written, cr1Rule}
 use Rattle.registers.specs.declared.Control.{Control}
 use Rattle.registers.specs.declared.settings.Settings.{Settings}
@@ -66,18 +66,18 @@ module _ (c : Control) (small : c .cr1 ≤ 15) (off : enabledOf c ≡ false) whe
         phase = settingsOf c .phase;
         polarity = settingsOf c .polarity;
         bits = settingsOf c .bits;
-        half = settingsOf c .half;
+        divisor = settingsOf c .divisor;
         slave = settingsOf c .slave;
-        silent = settingsOf c .silent;
+        sod = settingsOf c .sod;
         loopback = settingsOf c .loopback;
         enabled = true;
       }
-  unfolding settingsOf halfOf enabledOf
+  unfolding settingsOf divisorOf enabledOf
   settings-on = rw (same-loopback, same-role, same-output, now-on)
 
 pub control-on : (m : Model) → m .control .cr1 ≤ 15 → enabledOf (m .control) ≡ false → permittedOf (m .control .cr0) ≡ true → (m .control .cpsr ≡ 0 → ⊥)
     → writeModel m 0x04 (m .control .cr1 + 2) .control ≡ switchedOn (m .control)
-unfolding writeModel writeRefusal placeOf cr1Rule cr1Written
+unfolding writeModel writeRefusal registerOf cr1Rule cr1Written
 control-on m small off good divided =
     let c = m .control in
     let f = fits-four c small off in

@@ -13,7 +13,7 @@ use Rattle.registers.specs.Transfer.{rest}
 use Rattle.registers.specs.declared.settings.Format.the-variants.{Motorola}
 use Rattle.registers.specs.declared.settings.Settings.{Settings}
 use Rattle.serial.specs.Bits.{bitOf, cut}
-use Rattle.serial.specs.Engine.{cleared, clearShift, still, loaded}
+use Rattle.serial.specs.Engine.{cleared, clearShift, noWord, loaded}
 use Rattle.serial.specs.Slots.{eventOf, motorolaEvent, lastSlot, levelsOf}
 use Rattle.serial.specs.Lines.{masterLines, slaveLines, frameLines}
 use Rattle.serial.specs.Master.{act, masterStep, masterEnd, acting, resting, dataBit}
@@ -58,13 +58,13 @@ pub begin-acts : (phase : Bool) (b h w : ℕ) (ws : List ℕ) (q : Receiver) (d 
 unfolding acted masterStep acting resting eventOf motorolaEvent
 begin-acts phase b h w ws q d =
     let x : Side = record { tx = w ∷ ws; rx = q; engine = cleared; lines = hidden } in
-    let r : Step = act (sm phase b h) cleared (waits (w ∷ ws)) w (dataBit (sm phase b h) cleared d) (eventOf (sm phase b h) 0) in
-    ap (λ (t : Bool). moved (pick t r (still cleared)) x (masterLines (sm phase b h) (pick t r (still cleared) .engine))) (waits-cons w ws)
+    let r : Step = act (sm phase b h) cleared (waits (w ∷ ws)) w (dataBit (sm phase b h) cleared d) (eventOf (sm phase b h) (slots 0)) in
+    ap (λ (t : Bool). moved (pick t r (noWord cleared)) x (masterLines (sm phase b h) (pick t r (noWord cleared) .engine))) (waits-cons w ws)
     ∙ ap (moved r x) (lines-at phase b h 0 (loaded w) false (levels-first phase b))
 
 -- FSS is HIGH again
 abbrev pub parked : ℕ → Engine
-parked n = record { slot = slots n; gone = cycles 0; frame = false; selected = false; mark = false; shift = clearShift }
+parked n = record { slot = slots n; elapsed = cycles 0; frame = false; selected = false; mark = false; shift = clearShift }
 
 abbrev pub releasedAt : Queues → ℕ → Two
 releasedAt k n = record { m = record { tx = k .mtx; rx = k .mrx; engine = parked n; lines = hidden }; s = idle k .s }
@@ -77,9 +77,9 @@ module _ (phase : Bool) (b h : ℕ) (k : Queues) where
   unfolding eventOf dataBit wire lastSlot onward masterLines slaveLines slaveEnd slaveStep motorolaSlave slaveSide
   release-slot w v c n e =
       slot-of (sm phase b h) (ss phase b h) (filledAt b w v k c false n) (freed n) (releasedAt k (n + 1) .m) (idle k .s) (idle k .s)
-      (acted-by (sm phase b h) n (shifted (c + 1) (bitOf b w c) w (cut b v)) (k .mtx) (k .mrx) _ _ (bitOf b v c && true) Release (still (parked n)) (motorola-release phase b n e) refl refl)
+      (acted-by (sm phase b h) n (shifted (c + 1) (bitOf b w c) w (cut b v)) (k .mtx) (k .mrx) _ _ (bitOf b v c && true) Release (noWord (parked n)) (motorola-release phase b n e) refl refl)
       (rw (lt-ltb n (2 * b + 3) (omega arith)))
-      (slave-by (ss phase b h) (wire (inFrame false (bitOf b w c))) (wire hidden) (filledAt b w v k c false n .s) (still cleared) cleared hidden refl refl refl)
+      (slave-by (ss phase b h) (wire (inFrame false (bitOf b w c))) (wire hidden) (filledAt b w v k c false n .s) (noWord cleared) cleared hidden refl refl refl)
       refl refl
 
   parked-acts : (n : ℕ) (d : Bool) → 0 < n → acted (sm phase b h) (freed n) d ≡ freed n

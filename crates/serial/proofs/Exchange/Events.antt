@@ -5,6 +5,7 @@ use mathlib.Core.Bool.{Bool, true, false, not, _&&_, and-false}
 use native.Mathlib.Omega.{arith}
 use lib.Dec.{ltb, leb, eqb}
 use borrow.Author.Tests.{eq-eqb, ne-eqb, lt-ltb, le-ltb, le-leb, lt-leb}
+use Rattle.registers.specs.Time.{slots}
 use Rattle.registers.specs.Choose.{pick}
 use Rattle.serial.specs.Slots.{motorolaEvent, tiEvent, motorolaLevels, tiLevels}
 use Rattle.serial.specs.declared.slots.Event.{Event}
@@ -24,7 +25,7 @@ module _ (phase : Bool) (b n : ℕ) where
   unfolding motorolaEvent
   motorola-capture i e l = rw (ne-eqb n 0 (omega arith), le-leb n (2 * b) (omega arith), ne-eqb (n % 2) 1 (omega arith))
 
-  pub motorola-last : n ≡ 2 * b + 1 → motorolaEvent phase b n ≡ pick phase (Chain 1) Pause
+  pub motorola-last : n ≡ 2 * b + 1 → motorolaEvent phase b n ≡ pick phase (Chain (slots 1)) Pause
   unfolding motorolaEvent
   motorola-last e = rw (ne-eqb n 0 (omega arith), lt-leb n (2 * b) (omega arith), eq-eqb n (2 * b + 1) e)
 

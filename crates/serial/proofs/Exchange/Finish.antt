@@ -52,7 +52,7 @@ pushed-kept (w ∷ ws) q l = go (λ q′ l′. pushed-kept ws q′ l′) (decLt 
 
 -- The end of a load ----------------------------------------------------------------------------------------------------
 
-module _ {sm ss : Settings} {b : ℕ} {i : Lines} {slots : ℕ → ℕ} {quits : ℕ} (X : Exchange sm ss b i slots quits) (L : Lawful ss) (l : 6 ≤ sm .half) where
+module _ {sm ss : Settings} {b : ℕ} {i : Lines} {slots : ℕ → ℕ} {quits : ℕ} (X : Exchange sm ss b i slots quits) (L : Lawful ss) (l : 6 ≤ sm .divisor .0) where
   abbrev cycle : Pair → Pair
   cycle = coreCycle sm ss
 
@@ -62,32 +62,32 @@ module _ {sm ss : Settings} {b : ℕ} {i : Lines} {slots : ℕ → ℕ} {quits :
   -- how many cycles the master is busy
   abbrev pub busyCycles : List ℕ → ℕ
   busyCycles [] = 0
-  busyCycles (w ∷ ws) = slots (length ws) * sm .half + quits
+  busyCycles (w ∷ ws) = slots (length ws) * sm .divisor .0 + quits
 
   meets : (t : Two) → Going sm ss t → Meets sm ss (λ x. busy x ≡ true) (λ x. Unit {0}) t
   meets t g = record { live = g .live; before = g .now; during = λ i. g .then; slave = tt; sees = tt; rests = tt }
 
   cycles-trace : (w : ℕ) (ws : List ℕ) (q : Receiver) (vs : List ℕ) (r : Receiver)
-      → Trace (Both sm ss (λ x. busy x ≡ true) (λ x. Unit {0})) cycle (slots (length ws) * sm .half) (begins (w ∷ ws) q vs r) (rested (X .last w ws q vs r))
+      → Trace (Both sm ss (λ x. busy x ≡ true) (λ x. Unit {0})) cycle (slots (length ws) * sm .divisor .0) (begins (w ∷ ws) q vs r) (rested (X .last w ws q vs r))
   cycles-trace w ws q vs r = slots-trace sm ss (λ x. busy x ≡ true) (λ x. Unit {0}) L l (X .settled (holding (w ∷ ws) q vs r)) (trace-map meets (X .run w ws q vs r))
 
   pub stays-busy : (ws : List ℕ) (q : Receiver) (vs : List ℕ) (r : Receiver) (n : ℕ) → n < busyCycles ws → busy (iterate n cycle (begins ws q vs r) .m) ≡ true
   stays-busy [] q vs r n k = absurd (omega arith)
-  stays-busy (w ∷ ws) q vs r n k = go (decLt n (slots (length ws) * sm .half))
+  stays-busy (w ∷ ws) q vs r n k = go (decLt n (slots (length ws) * sm .divisor .0))
     where
-      go : Dec (n < slots (length ws) * sm .half) → busy (iterate n cycle (begins (w ∷ ws) q vs r) .m) ≡ true
+      go : Dec (n < slots (length ws) * sm .divisor .0) → busy (iterate n cycle (begins (w ∷ ws) q vs r) .m) ≡ true
       go (yes p) = trace-at (cycles-trace w ws q vs r) n p .0
       go (no p) =
-          let j = n - slots (length ws) * sm .half in
-          let e : n ≡ slots (length ws) * sm .half + j = omega arith in
+          let j = n - slots (length ws) * sm .divisor .0 in
+          let e : n ≡ slots (length ws) * sm .divisor .0 + j = omega arith in
           ap (λ (x : ℕ). busy (iterate x cycle (begins (w ∷ ws) q vs r) .m)) e
-          ∙ ap (λ (p : Pair). busy (p .m)) (iterate-add cycle (slots (length ws) * sm .half) j (begins (w ∷ ws) q vs r) ∙ ap (iterate j cycle) (trace-run (cycles-trace w ws q vs r)))
+          ∙ ap (λ (p : Pair). busy (p .m)) (iterate-add cycle (slots (length ws) * sm .divisor .0) j (begins (w ∷ ws) q vs r) ∙ ap (iterate j cycle) (trace-run (cycles-trace w ws q vs r)))
           ∙ X .hold w ws q vs r j (omega arith)
 
   pub gets-free : (ws : List ℕ) (q : Receiver) (vs : List ℕ) (r : Receiver) → busy (iterate (busyCycles ws) cycle (begins ws q vs r) .m) ≡ false
   gets-free [] q vs r = X .unbusy q vs r
   gets-free (w ∷ ws) q vs r =
-      ap (λ (p : Pair). busy (p .m)) (iterate-add cycle (slots (length ws) * sm .half) (quits) (begins (w ∷ ws) q vs r) ∙ ap (iterate (quits) cycle) (trace-run (cycles-trace w ws q vs r)))
+      ap (λ (p : Pair). busy (p .m)) (iterate-add cycle (slots (length ws) * sm .divisor .0) (quits) (begins (w ∷ ws) q vs r) ∙ ap (iterate (quits) cycle) (trace-run (cycles-trace w ws q vs r)))
       ∙ X .free w ws q vs r
 
   pub has-received : (ws : List ℕ) (q : Receiver) (vs : List ℕ) (r : Receiver) (j : ℕ) → length (q .held) ≤ 8 → length (r .held) ≤ 8
@@ -96,7 +96,7 @@ module _ {sm ss : Settings} {b : ℕ} {i : Lines} {slots : ℕ → ℕ} {quits :
       let e = iterate-fixed cycle (begins [] q vs r) (X .rest q vs r) (0 + j) in
       (ap (λ (x : Pair). x .m .rx) e ∙ X .holds (holding [] q vs r) .0 ∙ sym (kept-nil q p), ap (λ (x : Pair). x .s .rx) e ∙ X .holds (holding [] q vs r) .1 ∙ sym (kept-nil r p′))
   has-received (w ∷ ws) q vs r j p p′ =
-      let n = slots (length ws) * sm .half in
+      let n = slots (length ws) * sm .divisor .0 in
       let assoc : n + quits + j ≡ n + (quits + j) = omega arith in
       let e : iterate (n + quits + j) cycle (begins (w ∷ ws) q vs r) ≡ iterate (quits + j) cycle (rested (X .last w ws q vs r)) =
       ap (λ (x : ℕ). iterate x cycle (begins (w ∷ ws) q vs r)) assoc ∙ iterate-add cycle n (quits + j) (begins (w ∷ ws) q vs r) ∙ ap (iterate (quits + j) cycle) (trace-run (cycles-trace w ws q vs r)) in

@@ -11,19 +11,19 @@ use borrow.Author.Tests.{eq-eqb, ne-eqb, lt-leb, eqb-false}
 use Rattle.registers.specs.Choose.{pick, bitAt}
 use Rattle.registers.proofs.Picks.{pick-both, pick-ap}
 use Rattle.registers.specs.Model.{Model}
-use Rattle.registers.specs.Offsets.{placeOf}
+use Rattle.registers.specs.Offsets.{registerOf}
 use Rattle.registers.specs.Settings.{settingsOf, enabledOf, permittedOf}
-use Rattle.registers.specs.Transfer.{endedModel}
+use Rattle.registers.specs.Transfer.{endCycle}
 use Rattle.registers.specs.Access.{readModel, readDone, readRefusal, dataTaken, writeModel, writeDone, writeRefusal, cr0Written, cr1Written, cpsrWritten, icrWritten, drWritten, imscWritten, dmacrWritten, cr1Rule}
 use Rattle.registers.proofs.Accesses.{control-read}
-use Rattle.registers.proofs.Soundness.{sound-told}
+use Rattle.registers.proofs.Soundness.{sound-elim}
 use Rattle.registers.specs.declared.Control.{Control}
-use Rattle.registers.specs.declared.offsets.Place.{Place}
-use Rattle.registers.specs.declared.offsets.Place.the-variants.{Cr0, Cr1, Dr, Sr, Cpsr, Imsc, Ris, Mis, Icr, Dmacr, Identity, Reserved, Outside}
+use Rattle.registers.specs.declared.offsets.Register.{Register}
+use Rattle.registers.specs.declared.offsets.Register.the-variants.{Cr0, Cr1, Dr, Sr, Cpsr, Imsc, Ris, Mis, Icr, Dmacr, Identity, Reserved, Outside}
 use Rattle.registers.specs.declared.settings.Settings.{Settings}
-use Rattle.serial.specs.Engine.{cleared, still}
+use Rattle.serial.specs.Engine.{cleared, noWord}
 use Rattle.serial.specs.Lines.{linesOf}
-use Rattle.serial.specs.Cycle.{DeviceModel, endOf, takenModel, completeModel, stepModel, deviceStep, cycleOf}
+use Rattle.serial.specs.Cycle.{DeviceModel, endOf, takeIf, receiveIf, stepModel, deviceStep, cycleOf}
 use Rattle.serial.proofs.Cycles.{control-cycle, step-stopped, end-cleared}
 use Rattle.serial.specs.Access.{readDevice, writeDevice, engineAfter}
 use Rattle.serial.specs.Sound.{soundDevice}
@@ -39,7 +39,7 @@ use Rattle.serial.specs.declared.lines.Pins.{Pins}
 
 -- A device that is still -----------------------------------------------------------------------------------------------
 
-module _ (d : DeviceModel) (x : Pins) (q : deviceStep d x ≡ still cleared) where
+module _ (d : DeviceModel) (x : Pins) (q : deviceStep d x ≡ noWord cleared) where
   still-engine : cycleOf d x .engine ≡ cleared
   unfolding cycleOf
   still-engine = ap (λ r. endOf (settingsOf (d .registers .control)) (r .engine)) q ∙ end-cleared _
@@ -49,7 +49,7 @@ module _ (d : DeviceModel) (x : Pins) (q : deviceStep d x ≡ still cleared) whe
   still-lines = ap (λ r. linesOf (settingsOf (d .registers .control)) (r .engine)) q
 
   still-ror : cycleOf d x .registers .ror ≡ d .registers .ror
-  unfolding cycleOf endedModel takenModel completeModel
+  unfolding cycleOf endCycle takeIf receiveIf
   still-ror = ap (λ r. stepModel (d .registers) r .ror) q
 
 newest-cycle : (d : DeviceModel) (x : Pins) → cycleOf d x .pins .newest ≡ x
@@ -66,7 +66,7 @@ oldest-cycle d x = refl
 
 -- Accesses that leave the control registers leave the engine, the pins and the lines ----------------------------------
 
-read-ror : (m : Model) (p : Place) → readDone m p .ror ≡ m .ror
+read-ror : (m : Model) (p : Register) → readDone m p .ror ≡ m .ror
 unfolding dataTaken
 read-ror m Cr0 = refl
 read-ror m Cr1 = refl
@@ -84,9 +84,9 @@ read-ror m Outside = refl
 
 ror-read : (m : Model) (o : ℕ) → readModel m o .ror ≡ m .ror
 unfolding readModel
-ror-read m o = pick-both (λ (z : Model). z .ror ≡ m .ror) (eqb (readRefusal m (placeOf o)) 0) _ _ (λ _. read-ror m (placeOf o)) (λ _. refl)
+ror-read m o = pick-both (λ (z : Model). z .ror ≡ m .ror) (eqb (readRefusal m (registerOf o)) 0) _ _ (λ _. read-ror m (registerOf o)) (λ _. refl)
 
-write-ror : (m : Model) (p : Place) (v : ℕ) → m .ror ≡ false → writeDone m p v .ror ≡ false
+write-ror : (m : Model) (p : Register) (v : ℕ) → m .ror ≡ false → writeDone m p v .ror ≡ false
 unfolding cr0Written cr1Written cpsrWritten icrWritten drWritten imscWritten dmacrWritten
 write-ror m Cr0 v h = h
 write-ror m Cr1 v h = h
@@ -104,7 +104,7 @@ write-ror m Outside v h = h
 
 ror-write : (m : Model) (o v : ℕ) → m .ror ≡ false → writeModel m o v .ror ≡ false
 unfolding writeModel
-ror-write m o v h = pick-both (λ (z : Model). z .ror ≡ false) (eqb (writeRefusal m (placeOf o) v) 0) _ _ (λ _. write-ror m (placeOf o) v h) (λ _. h)
+ror-write m o v h = pick-both (λ (z : Model). z .ror ≡ false) (eqb (writeRefusal m (registerOf o) v) 0) _ _ (λ _. write-ror m (registerOf o) v h) (λ _. h)
 
 and-not : (t : Bool) → (t && not t) ≡ false
 and-not true = refl
@@ -199,7 +199,7 @@ module _ {i j : Lines} {c₁ c₂ : Control} where
 
   -- a cycle in which both are still
   lead-cycle : (n : ℕ) (g : PairModel) → linesOf (settingsOf c₁) cleared ≡ i → linesOf (settingsOf c₂) cleared ≡ j → Lead i j c₁ c₂ n g
-      → deviceStep (g .first) (wire (g .second .lines)) ≡ still cleared → deviceStep (g .second) (wire (g .first .lines)) ≡ still cleared → Lead i j c₁ c₂ (suc n) (pairCycle g)
+      → deviceStep (g .first) (wire (g .second .lines)) ≡ noWord cleared → deviceStep (g .second) (wire (g .first .lines)) ≡ noWord cleared → Lead i j c₁ c₂ (suc n) (pairCycle g)
   unfolding pairCycle
   lead-cycle n g p q c q₁ q₂ =
       let x = wire (g .second .lines) in
@@ -231,7 +231,7 @@ kept-second g o v h = engine-write (g .second) o v (ap enabledOf h)
 
 -- Any steps that leave the control registers: the master off, and the slave still in every cycle.
 module _ {i j : Lines} {c₁ c₂ : Control} (p : linesOf (settingsOf c₁) cleared ≡ i) (q : linesOf (settingsOf c₂) cleared ≡ j) (off : enabledOf c₁ ≡ false)
-    (from : ℕ) (quiet : (n : ℕ) (g : PairModel) → from ≤ n → Lead i j c₁ c₂ n g → deviceStep (g .second) (wire (g .first .lines)) ≡ still cleared) where
+    (from : ℕ) (quiet : (n : ℕ) (g : PairModel) → from ≤ n → Lead i j c₁ c₂ n g → deviceStep (g .second) (wire (g .first .lines)) ≡ noWord cleared) where
   pub lead-steps : (xs : List Step) (n m : ℕ) (g : PairModel) → n + cyclesIn xs ≡ m → from ≤ n → Stays xs g → Lead i j c₁ c₂ n g → Lead i j c₁ c₂ m (plays xs g)
   lead-steps [] n m g e k z l = subst (λ (x : ℕ). Lead i j c₁ c₂ x g) (omega arith) l
   lead-steps (Step.cycle ∷ xs) n m g e k z l =

@@ -12,7 +12,7 @@ use Rattle.registers.specs.Time.{cycles, slots}
 use Rattle.registers.specs.declared.settings.Format.the-variants.{Motorola}
 use Rattle.registers.specs.declared.settings.Settings.{Settings}
 use Rattle.serial.specs.Bits.{bitOf, cut, shiftedIn}
-use Rattle.serial.specs.Engine.{cleared, clearShift, withShift, still, started, driven, captureStep}
+use Rattle.serial.specs.Engine.{cleared, clearShift, withShift, noWord, started, driven, captureStep}
 use Rattle.serial.specs.Slots.{eventOf, lastSlot, widthOf, motorolaLevels, levelsOf}
 use Rattle.serial.specs.Lines.{masterLines, slaveLines, frameLines}
 use Rattle.serial.specs.Master.{masterStep, acting, resting, dataBit}
@@ -33,7 +33,7 @@ use Rattle.serial.proofs.Exchange.Quiet.{quiet-low}
 
 -- a slave's engine while it is selected
 abbrev pub chosen : Bool → Shift → Engine
-chosen f x = record { slot = slots 0; gone = cycles 0; frame = f; selected = true; mark = false; shift = x }
+chosen f x = record { slot = slots 0; elapsed = cycles 0; frame = f; selected = true; mark = false; shift = x }
 
 module _ (phase : Bool) (b h : ℕ) where
   abbrev pub sm : Settings
@@ -73,7 +73,7 @@ unfolding slaveStep motorolaSlave motorolaSelect motorolaEdges captureEdge drive
 slave-captures true b h x d d′ n = refl
 slave-captures false b h x d d′ n = refl
 
-slave-drives : (phase : Bool) (b h : ℕ) (x : Shift) (d d′ : Bool) (n : ℕ) → slaveStep (ss phase b h) (chosen true x) (wire (inFrame (not phase) d)) (wire (inFrame phase d′)) n ≡ still (withShift (chosen true x) (driven b (x .captured) x))
+slave-drives : (phase : Bool) (b h : ℕ) (x : Shift) (d d′ : Bool) (n : ℕ) → slaveStep (ss phase b h) (chosen true x) (wire (inFrame (not phase) d)) (wire (inFrame phase d′)) n ≡ noWord (withShift (chosen true x) (driven b (x .captured) x))
 unfolding slaveStep motorolaSlave motorolaSelect motorolaEdges captureEdge driveEdge motorolaClock dataBit wire
 slave-drives true b h x d d′ n = refl
 slave-drives false b h x d d′ n = refl
@@ -89,7 +89,7 @@ pub calm : (phase : Bool) (b h : ℕ) (tx : List ℕ) (rx : Receiver) (f : Bool)
     ≡ record { tx = tx; rx = rx; engine = chosen f x; lines = shown (x .level) }
 unfolding wire slaveLines
 calm phase b h tx rx f x c d d′ e =
-    slave-by (ss phase b h) _ _ (record { tx = tx; rx = rx; engine = chosen f x; lines = shown (x .level) }) (still (chosen f x)) (chosen f x) (shown (x .level)) (quiet-low phase b h c (d && true) (d′ && true) (chosen f x) _) e refl
+    slave-by (ss phase b h) _ _ (record { tx = tx; rx = rx; engine = chosen f x; lines = shown (x .level) }) (noWord (chosen f x)) (chosen f x) (shown (x .level)) (quiet-low phase b h c (d && true) (d′ && true) (chosen f x) _) e refl
 
 -- bit c of the partner's word, shifted in
 pub next-bit : (b w c : ℕ) → c < b → b ≤ 16 → shiftedIn (top b w c) (bitOf b w c && true) ≡ top b w (c + 1)
@@ -109,30 +109,30 @@ module _ (phase : Bool) (b h w v : ℕ) (k : Queues) (m : b ≤ 16) where
       let x = shifted (c + 1) (bitOf b w c) w (top b v (c + 1)) in
       let x′ = shifted (c + 1) (bitOf b v c) v (top b w (c + 1)) in
       slot-of (sm phase b h) (ss phase b h) (drivenAt phase b h w v k c n) (now c n) (capturedAt phase b h w v k c (n + 1) .m) (capturedAt phase b h w v k c (n + 1) .s) (capturedAt phase b h w v k c (n + 1) .s)
-      (acted-by (sm phase b h) n (shifted c (bitOf b w c) w (top b v c)) (k .mtx) (k .mrx) _ _ (bitOf b v c && true) Capture (still (sending n x)) (motorola-capture phase b n c e (omega arith))
-      (capture-in b (bitOf b v c && true) (sending n (shifted c (bitOf b w c) w (top b v c))) l ∙ ap (λ (r : ℕ). still (sending n (shifted (c + 1) (bitOf b w c) w r))) (next-bit b v c (omega arith) m))
+      (acted-by (sm phase b h) n (shifted c (bitOf b w c) w (top b v c)) (k .mtx) (k .mrx) _ _ (bitOf b v c && true) Capture (noWord (sending n x)) (motorola-capture phase b n c e (omega arith))
+      (capture-in b (bitOf b v c && true) (sending n (shifted c (bitOf b w c) w (top b v c))) l ∙ ap (λ (r : ℕ). noWord (sending n (shifted (c + 1) (bitOf b w c) w r))) (next-bit b v c (omega arith) m))
       (lines-at phase b h n x (not phase) (levels-capture phase b n c e (omega arith))))
       (onward-in (sm phase b h) n x (k .mtx) (k .mrx) _ (omega arith))
-      (slave-by (ss phase b h) _ _ (drivenAt phase b h w v k c n .s) (still (chosen true x′)) (chosen true x′) (shown (bitOf b v c))
+      (slave-by (ss phase b h) _ _ (drivenAt phase b h w v k c n .s) (noWord (chosen true x′)) (chosen true x′) (shown (bitOf b v c))
       (slave-captures phase b h (shifted c (bitOf b v c) v (top b w c)) (bitOf b w c) (bitOf b w c) _
-      ∙ capture-in b (bitOf b w c && true) (chosen true (shifted c (bitOf b v c) v (top b w c))) l ∙ ap (λ (r : ℕ). still (chosen true (shifted (c + 1) (bitOf b v c) v r))) (next-bit b w c (omega arith) m))
+      ∙ capture-in b (bitOf b w c && true) (chosen true (shifted c (bitOf b v c) v (top b w c))) l ∙ ap (λ (r : ℕ). noWord (chosen true (shifted (c + 1) (bitOf b v c) v r))) (next-bit b w c (omega arith) m))
       (in-word phase b h x′ l) refl)
       (calm phase b h (k .stx) (k .srx) true x′ (not phase) (bitOf b w c) (bitOf b w c) (in-word phase b h x′ l)) refl
 
-  abbrev later : ℕ → ℕ → Side
-  later c n = record { tx = k .mtx; rx = k .mrx; engine = sending n (shifted (c + 1) (bitOf b w (c + 1)) w (top b v (c + 1))); lines = inFrame phase (bitOf b w (c + 1)) }
+  abbrev pairRun : ℕ → ℕ → Side
+  pairRun c n = record { tx = k .mtx; rx = k .mrx; engine = sending n (shifted (c + 1) (bitOf b w (c + 1)) w (top b v (c + 1))); lines = inFrame phase (bitOf b w (c + 1)) }
 
   -- the next bit goes on both lines
-  drive-slot : (c n : ℕ) → n ≡ 2 * (c + 1) + 1 → c + 1 < b → Slot (sm phase b h) (ss phase b h) (capturedAt phase b h w v k c n) (later c n) (drivenAt phase b h w v k (c + 1) (n + 1))
+  drive-slot : (c n : ℕ) → n ≡ 2 * (c + 1) + 1 → c + 1 < b → Slot (sm phase b h) (ss phase b h) (capturedAt phase b h w v k c n) (pairRun c n) (drivenAt phase b h w v k (c + 1) (n + 1))
   unfolding eventOf dataBit wire lastSlot widthOf slaveLines driven
   drive-slot c n e l =
       let x = shifted (c + 1) (bitOf b w (c + 1)) w (top b v (c + 1)) in
       let x′ = shifted (c + 1) (bitOf b v (c + 1)) v (top b w (c + 1)) in
-      slot-of (sm phase b h) (ss phase b h) (capturedAt phase b h w v k c n) (later c n) (drivenAt phase b h w v k (c + 1) (n + 1) .m) (drivenAt phase b h w v k (c + 1) (n + 1) .s) (drivenAt phase b h w v k (c + 1) (n + 1) .s)
-      (acted-by (sm phase b h) n (shifted (c + 1) (bitOf b w c) w (top b v (c + 1))) (k .mtx) (k .mrx) _ _ (bitOf b v c && true) (Drive (c + 1)) (still (sending n x)) (motorola-drive phase b n (c + 1) e l) refl
+      slot-of (sm phase b h) (ss phase b h) (capturedAt phase b h w v k c n) (pairRun c n) (drivenAt phase b h w v k (c + 1) (n + 1) .m) (drivenAt phase b h w v k (c + 1) (n + 1) .s) (drivenAt phase b h w v k (c + 1) (n + 1) .s)
+      (acted-by (sm phase b h) n (shifted (c + 1) (bitOf b w c) w (top b v (c + 1))) (k .mtx) (k .mrx) _ _ (bitOf b v c && true) (Drive (c + 1)) (noWord (sending n x)) (motorola-drive phase b n (c + 1) e l) refl
       (lines-at phase b h n x phase (levels-drive phase b n (c + 1) e l)))
       (onward-in (sm phase b h) n x (k .mtx) (k .mrx) _ (omega arith))
-      (slave-by (ss phase b h) _ _ (capturedAt phase b h w v k c n .s) (still (chosen true x′)) (chosen true x′) (shown (bitOf b v (c + 1)))
+      (slave-by (ss phase b h) _ _ (capturedAt phase b h w v k c n .s) (noWord (chosen true x′)) (chosen true x′) (shown (bitOf b v (c + 1)))
       (slave-drives phase b h (shifted (c + 1) (bitOf b v c) v (top b w (c + 1))) (bitOf b w c) (bitOf b w (c + 1)) _)
       (in-word phase b h x′ l) refl)
       (calm phase b h (k .stx) (k .srx) true x′ phase (bitOf b w (c + 1)) (bitOf b w (c + 1)) (in-word phase b h x′ l)) refl

@@ -11,7 +11,7 @@ use Rattle.registers.specs.Choose.{pick}
 use Rattle.registers.specs.Time.{cycles, slots}
 use Rattle.registers.specs.declared.settings.Settings.{Settings}
 use Rattle.serial.specs.Bits.{shiftedIn}
-use Rattle.serial.specs.Engine.{withShift, still, capturedOf, completes, captureStep}
+use Rattle.serial.specs.Engine.{withShift, noWord, capturedOf, completes, captureStep}
 use Rattle.serial.specs.Slots.{eventOf, lastSlot}
 use Rattle.serial.specs.Lines.{masterLines, slaveLines}
 use Rattle.serial.specs.Master.{act, masterStep, acting, dataBit}
@@ -47,7 +47,7 @@ hidden = record { clk = false; fss = true; txd = false; released = true }
 
 -- a master's engine in slot n of a frame
 abbrev pub sending : ℕ → Shift → Engine
-sending n x = record { slot = slots n; gone = cycles 0; frame = true; selected = false; mark = false; shift = x }
+sending n x = record { slot = slots n; elapsed = cycles 0; frame = true; selected = false; mark = false; shift = x }
 
 abbrev pub shifted : ℕ → Bool → ℕ → ℕ → Shift
 shifted c d w r = record { captured = c; level = d; sending = w; receiving = r }
@@ -64,12 +64,12 @@ slot-parts sm ss t y m s′ s″ p q r z =
     ∙ ap (λ (v : Side). record { m = m; s = v }) z
 
 -- the master's event in a frame
-event-step : (s : Settings) (n : ℕ) (x : Shift) (w : Bool) (i : ℕ) (d : Bool) (v : Event) → eventOf s n ≡ v → masterStep s (sending n x) w i d ≡ act s (sending n x) w i (dataBit s (sending n x) d) v
+event-step : (s : Settings) (n : ℕ) (x : Shift) (w : Bool) (i : ℕ) (d : Bool) (v : Event) → eventOf s (slots n) ≡ v → masterStep s (sending n x) w i d ≡ act s (sending n x) w i (dataBit s (sending n x) d) v
 unfolding masterStep acting
 event-step s n x w i d v e = ap (act s (sending n x) w i (dataBit s (sending n x) d)) e
 
 pub acted-by : (s : Settings) (n : ℕ) (x : Shift) (tx : List ℕ) (rx : Receiver) (l l′ : Lines) (d : Bool) (v : Event) (r : Step)
-    → eventOf s n ≡ v → act s (sending n x) (waits tx) (getD tx 0 0) (dataBit s (sending n x) d) v ≡ r → masterLines s (r .engine) ≡ l′
+    → eventOf s (slots n) ≡ v → act s (sending n x) (waits tx) (getD tx 0 0) (dataBit s (sending n x) d) v ≡ r → masterLines s (r .engine) ≡ l′
     → acted s (record { tx = tx; rx = rx; engine = sending n x; lines = l }) d ≡ moved r (record { tx = tx; rx = rx; engine = sending n x; lines = l }) l′
 unfolding acted
 acted-by s n x tx rx l l′ d v r e a q =
@@ -77,14 +77,14 @@ acted-by s n x tx rx l l′ d v r e a q =
     ap (λ (u : Step). moved u side (masterLines s (u .engine))) (event-step s n x (waits tx) (getD tx 0 0) d v e ∙ a) ∙ ap (moved r side) q
 
 -- the next slot of a frame
-pub onward-in : (s : Settings) (n : ℕ) (x : Shift) (tx : List ℕ) (rx : Receiver) (l : Lines) → n < lastSlot s
+pub onward-in : (s : Settings) (n : ℕ) (x : Shift) (tx : List ℕ) (rx : Receiver) (l : Lines) → n < lastSlot s .0
     → onward s (record { tx = tx; rx = rx; engine = sending n x; lines = l }) ≡ record { tx = tx; rx = rx; engine = sending (n + 1) x; lines = l }
 unfolding onward
-onward-in s n x tx rx l k = rw (lt-ltb n (lastSlot s) k)
+onward-in s n x tx rx l k = rw (lt-ltb n (lastSlot s .0) k)
 
 -- a capture, and the one that completes a word
 pub capture-in : (b : ℕ) (d : Bool) (e : Engine) → e .shift .captured + 1 < b
-    → captureStep b d e ≡ still (withShift e (shifted (e .shift .captured + 1) (e .shift .level) (e .shift .sending) (shiftedIn (e .shift .receiving) d)))
+    → captureStep b d e ≡ noWord (withShift e (shifted (e .shift .captured + 1) (e .shift .level) (e .shift .sending) (shiftedIn (e .shift .receiving) d)))
 unfolding captureStep capturedOf completes
 capture-in b d e l = rw (lt-ltb (e .shift .captured) b (omega arith), ne-eqb (e .shift .captured + 1) b (omega arith))
 

@@ -5,10 +5,11 @@ use mathlib.Core.Bool.{Bool, true, false, not, _&&_}
 use mathlib.Core.List.{List, [], _∷_, map}
 use native.Mathlib.Omega.{arith}
 use lib.ListN.{length, getD}
+use Rattle.registers.specs.Time.{slots}
 use Rattle.registers.specs.Choose.{pick}
 use Rattle.registers.specs.Transfer.{rest}
 use Rattle.serial.specs.Bits.{bitOf, cut}
-use Rattle.serial.specs.Engine.{cleared, clearShift, still, begun, loaded, started, driven}
+use Rattle.serial.specs.Engine.{cleared, clearShift, noWord, begun, loaded, started, driven}
 use Rattle.serial.specs.Slots.{eventOf, lastSlot, widthOf}
 use Rattle.serial.specs.Lines.{slaveLines}
 use Rattle.serial.specs.Master.{dataBit, act}
@@ -47,7 +48,7 @@ module _ (b h : ℕ) (l : 0 < b) where
       slot-of (sm true b h) (ss true b h) (idle (holding (w ∷ ws) q vs r)) (opened w ws q) (selectedAt w (holding ws q vs r) .m) (selectedAt w (holding ws q vs r) .s) (selectedAt w (holding ws q vs r) .s)
       (begin-acts true b h w ws q false)
       (onward-in (sm true b h) 0 (loaded w) ws q (inFrame false false) (omega arith))
-      (slave-by (ss true b h) (wire hidden) (wire (inFrame false false)) (idle (holding (w ∷ ws) q vs r) .s) (still (chosen false clearShift)) (chosen false clearShift) (shown false) refl (ended true b h clearShift) refl)
+      (slave-by (ss true b h) (wire hidden) (wire (inFrame false false)) (idle (holding (w ∷ ws) q vs r) .s) (noWord (chosen false clearShift)) (chosen false clearShift) (shown false) refl (ended true b h clearShift) refl)
       (calm true b h vs r false clearShift false false false (ended true b h clearShift)) refl
 
   first-slot : (w : ℕ) (ws : List ℕ) (q : Receiver) (vs : List ℕ) (r : Receiver)
@@ -61,7 +62,7 @@ module _ (b h : ℕ) (l : 0 < b) where
       rw (top-zero b (front vs), top-zero b w)
       (slot-of (sm true b h) (ss true b h) (selectedAt w (holding ws q vs r)) (record { tx = ws; rx = q; engine = sending 1 x; lines = inFrame true (bitOf b w 0) })
       (record { tx = ws; rx = q; engine = sending 2 x; lines = inFrame true (bitOf b w 0) }) y y
-      (acted-by (sm true b h) 1 (loaded w) ws q _ _ false (Drive 0) (still (sending 1 x)) (motorola-drive true b 1 0 refl l) refl (lines-at true b h 1 x true (levels-drive true b 1 0 refl l)))
+      (acted-by (sm true b h) 1 (loaded w) ws q _ _ false (Drive 0) (noWord (sending 1 x)) (motorola-drive true b 1 0 refl l) refl (lines-at true b h 1 x true (levels-drive true b 1 0 refl l)))
       (onward-in (sm true b h) 1 x ws q _ (omega arith))
       (slave-by (ss true b h) _ _ (selectedAt w (holding ws q vs r) .s) (begun (chosen false clearShift) x′) (chosen true x′) (shown (bitOf b (front vs) 0)) (slave-takes b h clearShift false (bitOf b w 0) (front vs)) (in-word true b h x′ l) refl)
       (calm true b h (rest vs) r true x′ true (bitOf b w 0) (bitOf b w 0) (in-word true b h x′ l)) refl)
@@ -79,8 +80,8 @@ module _ (b h : ℕ) (l : 0 < b) where
       rw (top-zero b (front vs), top-zero b u)
       (slot-of (sm true b h) (ss true b h) (filledAt b w v (holding (u ∷ ws) q vs r) c false n) (record { tx = ws; rx = q; engine = sending 1 x; lines = inFrame true (bitOf b u 0) })
       (record { tx = ws; rx = q; engine = sending 2 x; lines = inFrame true (bitOf b u 0) }) y y
-      (acted-by (sm true b h) n x0 (u ∷ ws) q _ _ (bitOf b v c && true) (Chain 1) (begun (sending 1 x0) x) (motorola-last true b n e)
-      (ap (λ (t : Bool). pick t (begun (sending 1 x0) x) (still (sending n x0))) (waits-cons u ws))
+      (acted-by (sm true b h) n x0 (u ∷ ws) q _ _ (bitOf b v c && true) (Chain (slots 1)) (begun (sending 1 x0) x) (motorola-last true b n e)
+      (ap (λ (t : Bool). pick t (begun (sending 1 x0) x) (noWord (sending n x0))) (waits-cons u ws))
       (lines-at true b h 1 x true (levels-drive true b 1 0 refl l)))
       (onward-in (sm true b h) 1 x ws q _ (omega arith))
       (slave-by (ss true b h) _ _ (filledAt b w v (holding (u ∷ ws) q vs r) c false n .s) (begun (chosen false (shifted (c + 1) (bitOf b v c) v (cut b w))) x′) (chosen true x′) (shown (bitOf b (front vs) 0))
@@ -97,7 +98,7 @@ hold-slot b h w v q vs r c n e =
     let x′ = shifted (c + 1) (bitOf b v c) v (cut b w) in
     let still-there = calm true b h vs r false x′ false (bitOf b w c) (bitOf b w c) (ended true b h x′) in
     slot-of (sm true b h) (ss true b h) (filledAt b w v k c false n) (filledAt b w v k c false n .m) (filledAt b w v k c false (n + 1) .m) (filledAt b w v k c false n .s) (filledAt b w v k c false n .s)
-    (acted-by (sm true b h) n x [] q _ _ (bitOf b v c && true) (Chain 1) (still (sending n x)) (motorola-last true b n e) refl (lines-at true b h n x false (levels-last true b n e)))
+    (acted-by (sm true b h) n x [] q _ _ (bitOf b v c && true) (Chain (slots 1)) (noWord (sending n x)) (motorola-last true b n e) refl (lines-at true b h n x false (levels-last true b n e)))
     (onward-in (sm true b h) n x [] q _ (omega arith))
     still-there still-there refl
 

@@ -5,19 +5,20 @@ use mathlib.Core.Bool.{Bool, true, false, not, _&&_, _||_}
 use mathlib.Core.List.{List, [], _∷_, _++_, append-nil}
 use lib.Dec.{ltb, eqb}
 use lib.ListN.{length, getD}
+use Rattle.registers.specs.Time.{divisor}
 use Rattle.registers.specs.Choose.{pick}
 use Rattle.registers.specs.Model.{Model}
 use Rattle.registers.specs.Settings.{settingsOf, enabledOf}
-use Rattle.registers.specs.Transfer.{added, rest, waitingOf, nextWord, sentModel, receivedModel, endedModel}
+use Rattle.registers.specs.Transfer.{added, rest, waitingOf, nextWord, takeWord, receiveWord, endCycle}
 use Rattle.registers.specs.declared.settings.Format.{Format}
 use Rattle.registers.specs.declared.settings.Format.the-variants.{Motorola, Ti, Microwire, Reserved}
 use Rattle.registers.specs.declared.settings.Settings.{Settings}
-use Rattle.serial.specs.Engine.{captureStep, still, cleared}
+use Rattle.serial.specs.Engine.{captureStep, noWord, cleared}
 use Rattle.serial.specs.Slots.{eventOf, lastSlot, widthOf, levelsOf}
 use Rattle.serial.specs.Lines.{differ, masterLines, slaveLines, frameLines, linesOf}
 use Rattle.serial.specs.Master.{act, masterStep, masterEnd, ticked, acting, dataBit}
 use Rattle.serial.specs.Slave.{slaveStep, slaveEnd, motorolaSlave, motorolaSelect, motorolaEdges, motorolaClock, captureEdge, driveEdge, tiSlave, tiFalls, tiRises}
-use Rattle.serial.specs.Cycle.{DeviceModel, stepOf, endOf, takenModel, completeModel, deviceStep, completedOf, follow, cycleOf}
+use Rattle.serial.specs.Cycle.{DeviceModel, stepOf, endOf, takeIf, receiveIf, deviceStep, completedOf, follow, cycleOf}
 use Rattle.serial.specs.Pair.{wire, PairModel, pairCycle}
 use Rattle.serial.proofs.Exchange.Core.{Receiver, Side, Pair, plain, push, moved, waits, withEngine, masterMoves, slaveMoves, acted, masterSide, slaveSide, coreCycle}
 use Rattle.serial.specs.declared.History.{History}
@@ -32,7 +33,7 @@ use Rattle.serial.specs.declared.slots.Levels.{Levels}
 -- Settings with everything named: SPO p, SOD o.
 abbrev pub given : Format → Bool → Bool → ℕ → ℕ → Bool → Bool → Settings
 given f phase p b h slave o =
-    record { format = f; phase = phase; polarity = p; bits = b; half = h; slave = slave; silent = o; loopback = false; enabled = true }
+    record { format = f; phase = phase; polarity = p; bits = b; divisor = divisor h; slave = slave; sod = o; loopback = false; enabled = true }
 
 -- SPO as far as it means something.
 abbrev pub turns : Format → Bool → Bool
@@ -83,7 +84,7 @@ act-plain f phase p b h o e w n d Pause = refl
 step-plain : (f : Format) (phase p : Bool) (b h : ℕ) (o : Bool) (e : Engine) (w : Bool) (n : ℕ) (d : Bool)
     → masterStep (given f phase p b h false o) e w n d ≡ masterStep (plain f phase b h false) e w n d
 unfolding masterStep dataBit eventOf
-step-plain f phase p b h o e w n d = ap (λ (r : Step). pick (acting e w) r (still e)) (act-plain f phase p b h o e w n d (eventOf (plain f phase b h false) (e .slot .0)))
+step-plain f phase p b h o e w n d = ap (λ (r : Step). pick (acting e w) r (noWord e)) (act-plain f phase p b h o e w n d (eventOf (plain f phase b h false) (e .slot)))
 
 end-plain : (f : Format) (phase p : Bool) (b h : ℕ) (o : Bool) (e : Engine) → masterEnd (given f phase p b h false o) e ≡ masterEnd (plain f phase b h false) e
 unfolding masterEnd ticked lastSlot
@@ -104,7 +105,7 @@ pub data Serial : Format → Type 0 where
 
 lines-plain : {f : Format} → Serial f → (phase p : Bool) (b h : ℕ) (o : Bool) (e : Engine) → masterLines (given f phase p b h false o) e ≡ turnLines (turns f p) (masterLines (plain f phase b h false) e)
 unfolding masterLines levelsOf frameLines
-lines-plain motorola phase p b h o e = go (e .frame) (levelsOf (plain Motorola phase b h false) (not (eqb (e .shift .captured) 0)) (e .slot .0))
+lines-plain motorola phase p b h o e = go (e .frame) (levelsOf (plain Motorola phase b h false) (not (eqb (e .shift .captured) 0)) (e .slot))
   where
     go : (t : Bool) (v : Levels) → pick t (frameLines (given Motorola phase p b h false o) v (e .shift .level)) (record { clk = p; fss = true; txd = false; released = true })
         ≡ turnLines p (pick t (frameLines (plain Motorola phase b h false) v (e .shift .level)) (record { clk = false; fss = true; txd = false; released = true }))
@@ -155,16 +156,16 @@ slave-lines-plain f phase p b h k e = refl
 abbrev pub rxOf : Model → List ℕ → Receiver
 rxOf m log = record { held = m .rx; ror = m .ror; log = log }
 
-step-tx : (m : Model) (t c : Bool) (w : ℕ) (f : Bool) → endedModel (completeModel (takenModel m t) c w) f .tx ≡ pick t (rest (m .tx)) (m .tx)
-unfolding endedModel completeModel takenModel receivedModel sentModel
+step-tx : (m : Model) (t c : Bool) (w : ℕ) (f : Bool) → endCycle (receiveIf (takeIf m t) c w) f .tx ≡ pick t (rest (m .tx)) (m .tx)
+unfolding endCycle receiveIf takeIf receiveWord takeWord
 step-tx m true true w f = refl
 step-tx m true false w f = refl
 step-tx m false true w f = refl
 step-tx m false false w f = refl
 
 step-rx : (m : Model) (t c : Bool) (w : ℕ) (f : Bool) (log : List ℕ)
-    → rxOf (endedModel (completeModel (takenModel m t) c w) f) (log ++ pick c (w ∷ []) []) ≡ pick c (push w (rxOf m log)) (rxOf m log)
-unfolding endedModel completeModel takenModel receivedModel sentModel push
+    → rxOf (endCycle (receiveIf (takeIf m t) c w) f) (log ++ pick c (w ∷ []) []) ≡ pick c (push w (rxOf m log)) (rxOf m log)
+unfolding endCycle receiveIf takeIf receiveWord takeWord push
 step-rx m true true w f log = refl
 step-rx m true false w f log = ap (rxOf m) (append-nil log)
 step-rx m false true w f log = refl
@@ -250,8 +251,8 @@ unfolding cycleOf completedOf
 side-cycle q l d x s r e a =
     let m = d .registers in
     ap₂ (λ (s : Settings) (r : Step). record {
-      tx = endedModel (completeModel (takenModel m (r .takes)) (r .complete) (r .word)) (endOf s (r .engine) .frame) .tx;
-      rx = rxOf (endedModel (completeModel (takenModel m (r .takes)) (r .complete) (r .word)) (endOf s (r .engine) .frame)) (l ++ pick (r .complete) (r .word ∷ []) []);
+      tx = endCycle (receiveIf (takeIf m (r .takes)) (r .complete) (r .word)) (endOf s (r .engine) .frame) .tx;
+      rx = rxOf (endCycle (receiveIf (takeIf m (r .takes)) (r .complete) (r .word)) (endOf s (r .engine) .frame)) (l ++ pick (r .complete) (r .word ∷ []) []);
       engine = endOf s (r .engine);
       lines = turnLines q (linesOf s (r .engine));
     }) e a

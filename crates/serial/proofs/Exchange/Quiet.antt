@@ -8,7 +8,7 @@ use Rattle.registers.specs.Choose.{pick}
 use Rattle.registers.specs.declared.settings.Format.{Format}
 use Rattle.registers.specs.declared.settings.Format.the-variants.{Motorola, Ti, Microwire, Reserved}
 use Rattle.registers.specs.declared.settings.Settings.{Settings}
-use Rattle.serial.specs.Engine.{cleared, still}
+use Rattle.serial.specs.Engine.{cleared, noWord}
 use Rattle.serial.specs.Lines.{slaveLines}
 use Rattle.serial.specs.Slave.{slaveStep, slaveEnd, endedOn, afterTaking, motorolaSlave, motorolaSelect, motorolaEdges, motorolaClock, captureEdge, driveEdge, tiSlave}
 use Rattle.serial.proofs.Exchange.Core.{Side, withEngine, moved, plain, slaveSide}
@@ -46,25 +46,25 @@ unfolding slaveSide
 side-after s p q x r h = ap (after s x) h
 
 -- a slave that is still whenever it sees p twice comes to rest
-still-idem : (s : Settings) (p : Pins) → ((e : Engine) (n : ℕ) → slaveStep s e p p n ≡ still e)
+still-idem : (s : Settings) (p : Pins) → ((e : Engine) (n : ℕ) → slaveStep s e p p n ≡ noWord e)
     → (q r : Pins) (x : Side) → slaveSide s p p (slaveSide s p p (slaveSide s q r x)) ≡ slaveSide s p p (slaveSide s q r x)
 unfolding slaveSide
 still-idem s p h q r x =
     let y = slaveSide s q r x in
     let fixed : slaveEnd s (y .engine) ≡ y .engine = ended-twice s (slaveStep s (x .engine) q r (getD (x .tx) 0 0) .engine) in
-    let once : slaveSide s p p y ≡ withEngine (calm s y) (y .engine) = side-after s p p y (still (y .engine)) (h (y .engine) _) ∙ ap (withEngine (calm s y)) fixed in
-    ap (slaveSide s p p) once ∙ side-after s p p (withEngine (calm s y) (y .engine)) (still (y .engine)) (h (y .engine) _) ∙ ap (withEngine (calm s y)) fixed ∙ sym once
+    let once : slaveSide s p p y ≡ withEngine (calm s y) (y .engine) = side-after s p p y (noWord (y .engine)) (h (y .engine) _) ∙ ap (withEngine (calm s y)) fixed in
+    ap (slaveSide s p p) once ∙ side-after s p p (withEngine (calm s y) (y .engine)) (noWord (y .engine)) (h (y .engine) _) ∙ ap (withEngine (calm s y)) fixed ∙ sym once
 
 pick-both : {A : Type 0} (t : Bool) (x y z : A) → x ≡ z → y ≡ z → pick t x y ≡ z
 pick-both true x y z p q = p
 pick-both false x y z p q = q
 
-clock-quiet : (s : Settings) (e : Engine) (n : ℕ) (d : Bool) → motorolaClock s e false false n d ≡ still e
+clock-quiet : (s : Settings) (e : Engine) (n : ℕ) (d : Bool) → motorolaClock s e false false n d ≡ noWord e
 unfolding motorolaClock
 clock-quiet s e n d = rw (and-false (e .frame))
 
 -- Motorola with FSS LOW
-pub quiet-low : (phase : Bool) (b h : ℕ) (c d d′ : Bool) (e : Engine) (n : ℕ) → slaveStep (plain Motorola phase b h true) e (record { clk = c; fss = false; rxd = d }) (record { clk = c; fss = false; rxd = d′ }) n ≡ still e
+pub quiet-low : (phase : Bool) (b h : ℕ) (c d d′ : Bool) (e : Engine) (n : ℕ) → slaveStep (plain Motorola phase b h true) e (record { clk = c; fss = false; rxd = d }) (record { clk = c; fss = false; rxd = d′ }) n ≡ noWord e
 unfolding slaveStep motorolaSlave motorolaSelect motorolaEdges captureEdge driveEdge
 quiet-low true b h true d d′ e n = pick-both (e .selected) _ _ _ (ap (afterTaking false) (clock-quiet (plain Motorola true b h true) e n _)) refl
 quiet-low true b h false d d′ e n = pick-both (e .selected) _ _ _ (ap (afterTaking false) (clock-quiet (plain Motorola true b h true) e n _)) refl
@@ -88,7 +88,7 @@ lawful-motorola phase b h = record { idem = λ p q r x. go (p .clk) (p .fss) (p 
     go c false d q r x = still-idem (plain Motorola phase b h true) (record { clk = c; fss = false; rxd = d }) (λ e n. quiet-low phase b h c d d e n) q r x
 
 -- TI
-pub quiet-ti : (phase : Bool) (b h : ℕ) (c f d f′ d′ : Bool) (e : Engine) (n : ℕ) → slaveStep (plain Ti phase b h true) e (record { clk = c; fss = f; rxd = d }) (record { clk = c; fss = f′; rxd = d′ }) n ≡ still e
+pub quiet-ti : (phase : Bool) (b h : ℕ) (c f d f′ d′ : Bool) (e : Engine) (n : ℕ) → slaveStep (plain Ti phase b h true) e (record { clk = c; fss = f; rxd = d }) (record { clk = c; fss = f′; rxd = d′ }) n ≡ noWord e
 unfolding slaveStep tiSlave
 quiet-ti phase b h true f d f′ d′ e n = refl
 quiet-ti phase b h false f d f′ d′ e n = refl

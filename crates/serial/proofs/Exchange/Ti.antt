@@ -13,7 +13,7 @@ use Rattle.registers.specs.Transfer.{rest}
 use Rattle.registers.specs.declared.settings.Format.the-variants.{Ti}
 use Rattle.registers.specs.declared.settings.Settings.{Settings}
 use Rattle.serial.specs.Bits.{bitOf, cut, shiftedIn}
-use Rattle.serial.specs.Engine.{cleared, clearShift, withShift, still, begun, loaded, started, driven, captureStep}
+use Rattle.serial.specs.Engine.{cleared, clearShift, withShift, noWord, begun, loaded, started, driven, captureStep}
 use Rattle.serial.specs.Slots.{eventOf, tiEvent, lastSlot, widthOf, tiLevels, levelsOf}
 use Rattle.serial.specs.Lines.{masterLines, slaveLines, frameLines}
 use Rattle.serial.specs.Master.{act, masterStep, masterEnd, acting, resting, dataBit, joinedShift}
@@ -63,7 +63,7 @@ module _ (phase : Bool) (b h : ℕ) where
   lines-joined : (n : ℕ) (x : Shift) (c : Bool) → (eqb (x .captured) 0) ≡ false → tiLevels true n ≡ record { clk = c; fss = true; released = false } → masterLines (plain Ti phase b h false) (sending n x) ≡ bitLines c true (x .level)
   unfolding masterLines levelsOf frameLines
   lines-joined n x c z e =
-      ap (λ (t : Bool). frameLines (plain Ti phase b h false) (levelsOf (plain Ti phase b h false) (not t) n) (x .level)) z ∙ ap (λ (v : Levels). frameLines (plain Ti phase b h false) v (x .level)) e
+      ap (λ (t : Bool). frameLines (plain Ti phase b h false) (levelsOf (plain Ti phase b h false) (not t) (slots n)) (x .level)) z ∙ ap (λ (v : Levels). frameLines (plain Ti phase b h false) v (x .level)) e
 
   -- The slave's edges ----------------------------------------------------------------------------------------------------
 
@@ -71,7 +71,7 @@ module _ (phase : Bool) (b h : ℕ) where
   unfolding slaveStep tiSlave tiFalls dataBit wire
   slave-captures x f d d′ n = refl
 
-  slave-drives : (x : Shift) (f d d′ : Bool) (n : ℕ) → slaveStep (plain Ti phase b h true) (sending 0 x) (wire (bitLines false false d)) (wire (bitLines true f d′)) n ≡ still (withShift (sending 0 x) (driven b (x .captured) x))
+  slave-drives : (x : Shift) (f d d′ : Bool) (n : ℕ) → slaveStep (plain Ti phase b h true) (sending 0 x) (wire (bitLines false false d)) (wire (bitLines true f d′)) n ≡ noWord (withShift (sending 0 x) (driven b (x .captured) x))
   unfolding slaveStep tiSlave tiRises wire
   slave-drives x f d d′ n = refl
 
@@ -81,9 +81,9 @@ module _ (phase : Bool) (b h : ℕ) where
   slave-joins x d d′ n e = rw (le-ltb (x .captured + 1) b (omega arith))
 
   abbrev marking : Engine
-  marking = record { slot = slots 0; gone = cycles 0; frame = false; selected = false; mark = true; shift = clearShift }
+  marking = record { slot = slots 0; elapsed = cycles 0; frame = false; selected = false; mark = true; shift = clearShift }
 
-  slave-takes : (d r d′ : Bool) (n : ℕ) → slaveStep (plain Ti phase b h true) (record { slot = slots 0; gone = cycles 0; frame = false; selected = false; mark = true; shift = clearShift }) (wire (lined false true d r)) (wire (bitLines true false d′)) n
+  slave-takes : (d r d′ : Bool) (n : ℕ) → slaveStep (plain Ti phase b h true) (record { slot = slots 0; elapsed = cycles 0; frame = false; selected = false; mark = true; shift = clearShift }) (wire (lined false true d r)) (wire (bitLines true false d′)) n
       ≡ record { engine = sending 0 (shifted 0 (bitOf b n 0) n 0); takes = true; complete = false; word = 0 }
   unfolding slaveStep tiSlave tiRises wire started
   slave-takes d r d′ n = refl
@@ -97,7 +97,7 @@ module _ (phase : Bool) (b h : ℕ) where
       → slaveSide (plain Ti phase b h true) (wire (lined c f d r)) (wire (lined c f d r)) (record { tx = tx; rx = rx; engine = e; lines = l }) ≡ record { tx = tx; rx = rx; engine = e; lines = l′ }
   unfolding wire
   calm tx rx e l l′ c f d r z k =
-      slave-by (plain Ti phase b h true) _ _ (record { tx = tx; rx = rx; engine = e; lines = l }) (still e) e l′ (quiet-ti phase b h c f (d && not r) f (d && not r) e _) z k
+      slave-by (plain Ti phase b h true) _ _ (record { tx = tx; rx = rx; engine = e; lines = l }) (noWord e) e l′ (quiet-ti phase b h c f (d && not r) f (d && not r) e _) z k
 
   -- The states -----------------------------------------------------------------------------------------------------------
 
@@ -154,8 +154,8 @@ module _ (phase : Bool) (b h : ℕ) where
   unfolding acted masterStep acting resting eventOf tiEvent masterLines levelsOf tiLevels frameLines
   open-acts w ws q d =
       let x : Side = record { tx = w ∷ ws; rx = q; engine = cleared; lines = tiIdle } in
-      let r : Step = act sm cleared (waits (w ∷ ws)) w (dataBit sm cleared d) (eventOf sm 0) in
-      ap (λ (t : Bool). moved (pick t r (still cleared)) x (masterLines sm (pick t r (still cleared) .engine))) (waits-cons w ws)
+      let r : Step = act sm cleared (waits (w ∷ ws)) w (dataBit sm cleared d) (eventOf sm (slots 0)) in
+      ap (λ (t : Bool). moved (pick t r (noWord cleared)) x (masterLines sm (pick t r (noWord cleared) .engine))) (waits-cons w ws)
 
   open-slot : (w : ℕ) (ws : List ℕ) (q : Receiver) (vs : List ℕ) (r : Receiver)
       → Slot sm ss (idle (holding (w ∷ ws) q vs r)) (record { tx = ws; rx = q; engine = sending 0 (loaded w); lines = lined true true false true }) (openedAt w (holding ws q vs r))
@@ -165,7 +165,7 @@ module _ (phase : Bool) (b h : ℕ) where
       (openedAt w (holding ws q vs r) .m) (openedAt w (holding ws q vs r) .s) (openedAt w (holding ws q vs r) .s)
       (open-acts w ws q false)
       (onward-in sm 0 (loaded w) ws q _ (omega arith))
-      (slave-by ss (wire tiIdle) (wire (lined true true false true)) (idle (holding (w ∷ ws) q vs r) .s) (still cleared) cleared hidden refl refl refl)
+      (slave-by ss (wire tiIdle) (wire (lined true true false true)) (idle (holding (w ∷ ws) q vs r) .s) (noWord cleared) cleared hidden refl refl refl)
       (calm vs r cleared hidden hidden true true false true refl refl) refl
 
   mark-slot : (w : ℕ) (k : Queues) → 0 < b
@@ -174,9 +174,9 @@ module _ (phase : Bool) (b h : ℕ) where
   mark-slot w k l =
       slot-of sm ss (openedAt w k) (record { tx = k .mtx; rx = k .mrx; engine = sending 1 (loaded w); lines = lined false true false true })
       (markedAt w k 0 false 0 true .m) (markedAt w k 0 false 0 true .s) (markedAt w k 0 false 0 true .s)
-      (acted-by sm 1 (loaded w) (k .mtx) (k .mrx) _ _ false JoinCapture (still (sending 1 (loaded w))) refl refl refl)
+      (acted-by sm 1 (loaded w) (k .mtx) (k .mrx) _ _ false JoinCapture (noWord (sending 1 (loaded w))) refl refl refl)
       (onward-in sm 1 (loaded w) (k .mtx) (k .mrx) _ (omega arith))
-      (slave-by ss (wire (lined true true false true)) (wire (lined false true false true)) (openedAt w k .s) (still marking) marking hidden refl refl refl)
+      (slave-by ss (wire (lined true true false true)) (wire (lined false true false true)) (openedAt w k .s) (noWord marking) marking hidden refl refl refl)
       (calm (k .stx) (k .srx) marking hidden hidden false true false true refl refl) refl
 
   first-slot : (w : ℕ) (ws : List ℕ) (q : Receiver) (vs : List ℕ) (r : Receiver) (c : ℕ) (d : Bool) (g : ℕ) (e : Bool) → 0 < b
@@ -190,7 +190,7 @@ module _ (phase : Bool) (b h : ℕ) where
       rw (top-zero b (front vs), top-zero b w)
       (slot-of sm ss (markedAt w (holding ws q vs r) c d g e) (record { tx = ws; rx = q; engine = sending 2 x; lines = bitLines true false (bitOf b w 0) })
       (record { tx = ws; rx = q; engine = sending 3 x; lines = bitLines true false (bitOf b w 0) }) y y
-      (acted-by sm 2 (shifted c d w g) ws q _ _ false First (still (sending 2 x)) refl refl (lines-at 2 x true (ti-levels-even false 2 0 refl)))
+      (acted-by sm 2 (shifted c d w g) ws q _ _ false First (noWord (sending 2 x)) refl refl (lines-at 2 x true (ti-levels-even false 2 0 refl)))
       (onward-in sm 2 x ws q _ (omega arith))
       (slave-by ss (wire (lined false true d e)) (wire (bitLines true false (bitOf b w 0))) (markedAt w (holding ws q vs r) c d g e .s)
       (record { engine = sending 0 x′; takes = true; complete = false; word = 0 }) (sending 0 x′) (shown (bitOf b (front vs) 0)) (slave-takes d e (bitOf b w 0) (front vs)) (in-word x′ l) refl)
@@ -206,13 +206,13 @@ module _ (phase : Bool) (b h : ℕ) where
         let x = shifted (c + 1) (bitOf b w c) w (top b v (c + 1)) in
         let x′ = shifted (c + 1) (bitOf b v c) v (top b w (c + 1)) in
         slot-of sm ss (drivenAt w v w k c n false) (record { tx = k .mtx; rx = k .mrx; engine = sending n x; lines = bitLines false false (bitOf b w c) }) (capturedAt w v k c (n + 1) .m) (capturedAt w v k c (n + 1) .s) (capturedAt w v k c (n + 1) .s)
-        (acted-by sm n x0 (k .mtx) (k .mrx) _ _ (bitOf b v c && true) Capture (still (sending n x)) (ti-capture b n c e)
-        (capture-in b (bitOf b v c && true) (sending n x0) l ∙ ap (λ (r : ℕ). still (sending n (shifted (c + 1) (bitOf b w c) w r))) (next-bit b v c (omega arith) m))
+        (acted-by sm n x0 (k .mtx) (k .mrx) _ _ (bitOf b v c && true) Capture (noWord (sending n x)) (ti-capture b n c e)
+        (capture-in b (bitOf b v c && true) (sending n x0) l ∙ ap (λ (r : ℕ). noWord (sending n (shifted (c + 1) (bitOf b w c) w r))) (next-bit b v c (omega arith) m))
         (lines-at n x false (ti-levels-odd _ n c e)))
         (onward-in sm n x (k .mtx) (k .mrx) _ (omega arith))
-        (slave-by ss _ _ (drivenAt w v w k c n false .s) (still (sending 0 x′)) (sending 0 x′) (shown (bitOf b v c))
+        (slave-by ss _ _ (drivenAt w v w k c n false .s) (noWord (sending 0 x′)) (sending 0 x′) (shown (bitOf b v c))
         (slave-captures y0 false (bitOf b w c) (bitOf b w c) _
-        ∙ capture-in b (bitOf b w c && true) (sending 0 y0) l ∙ ap (λ (r : ℕ). still (sending 0 (shifted (c + 1) (bitOf b v c) v r))) (next-bit b w c (omega arith) m))
+        ∙ capture-in b (bitOf b w c && true) (sending 0 y0) l ∙ ap (λ (r : ℕ). noWord (sending 0 (shifted (c + 1) (bitOf b v c) v r))) (next-bit b w c (omega arith) m))
         (in-word x′ l) refl)
         (calm (k .stx) (k .srx) (sending 0 x′) _ _ false false (bitOf b w c) false (in-word x′ l) refl) refl
 
@@ -225,9 +225,9 @@ module _ (phase : Bool) (b h : ℕ) where
         let x = shifted (c + 1) (bitOf b w (c + 1)) w (top b v (c + 1)) in
         let x′ = shifted (c + 1) (bitOf b v (c + 1)) v (top b w (c + 1)) in
         slot-of sm ss (capturedAt w v k c n) (record { tx = k .mtx; rx = k .mrx; engine = sending n x; lines = bitLines true false (bitOf b w (c + 1)) }) (drivenAt w v w k (c + 1) (n + 1) false .m) (drivenAt w v w k (c + 1) (n + 1) false .s) (drivenAt w v w k (c + 1) (n + 1) false .s)
-        (acted-by sm n x0 (k .mtx) (k .mrx) _ _ (bitOf b v c && true) (Drive (c + 1)) (still (sending n x)) (ti-drive b n (c + 1) e (omega arith) (omega arith)) refl (lines-at n x true (ti-levels-even _ n (c + 1) e)))
+        (acted-by sm n x0 (k .mtx) (k .mrx) _ _ (bitOf b v c && true) (Drive (c + 1)) (noWord (sending n x)) (ti-drive b n (c + 1) e (omega arith) (omega arith)) refl (lines-at n x true (ti-levels-even _ n (c + 1) e)))
         (onward-in sm n x (k .mtx) (k .mrx) _ (omega arith))
-        (slave-by ss _ _ (capturedAt w v k c n .s) (still (sending 0 x′)) (sending 0 x′) (shown (bitOf b v (c + 1))) (slave-drives y0 false (bitOf b w c) (bitOf b w (c + 1)) _) (in-word x′ (omega arith)) refl)
+        (slave-by ss _ _ (capturedAt w v k c n .s) (noWord (sending 0 x′)) (sending 0 x′) (shown (bitOf b v (c + 1))) (slave-drives y0 false (bitOf b w c) (bitOf b w (c + 1)) _) (in-word x′ (omega arith)) refl)
         (calm (k .stx) (k .srx) (sending 0 x′) _ _ true false (bitOf b w (c + 1)) false (in-word x′ (omega arith)) refl) refl
 
     bits-run : (j c d n o : ℕ) → c + j ≡ d → n + 2 * j ≡ o → n ≡ 2 * c + 3 → d + 1 < b
@@ -252,9 +252,9 @@ module _ (phase : Bool) (b h : ℕ) where
       let x′ = shifted (c + 1) (bitOf b v (c + 1)) v (top b w (c + 1)) in
       let i : b - 1 ≡ c + 1 = omega arith in
       slot-of sm ss (capturedAt w v k c n) (record { tx = []; rx = q; engine = sending n x; lines = bitLines true false (bitOf b w (c + 1)) }) (drivenAt w v w k (c + 1) (n + 1) false .m) (drivenAt w v w k (c + 1) (n + 1) false .s) (drivenAt w v w k (c + 1) (n + 1) false .s)
-      (acted-by sm n x0 [] q _ _ (bitOf b v c && true) (JoinDrive (c + 1)) (still (sending n x)) (ti-last b n (omega arith) (omega arith) ∙ ap JoinDrive i) refl (lines-at n x true (ti-levels-even _ n (c + 1) e)))
+      (acted-by sm n x0 [] q _ _ (bitOf b v c && true) (JoinDrive (c + 1)) (noWord (sending n x)) (ti-last b n (omega arith) (omega arith) ∙ ap JoinDrive i) refl (lines-at n x true (ti-levels-even _ n (c + 1) e)))
       (onward-in sm n x [] q _ (omega arith))
-      (slave-by ss _ _ (capturedAt w v k c n .s) (still (sending 0 x′)) (sending 0 x′) (shown (bitOf b v (c + 1))) (slave-drives y0 false (bitOf b w c) (bitOf b w (c + 1)) _) (in-word x′ (omega arith)) refl)
+      (slave-by ss _ _ (capturedAt w v k c n .s) (noWord (sending 0 x′)) (sending 0 x′) (shown (bitOf b v (c + 1))) (slave-drives y0 false (bitOf b w c) (bitOf b w (c + 1)) _) (in-word x′ (omega arith)) refl)
       (calm vs r (sending 0 x′) _ _ true false (bitOf b w (c + 1)) false (in-word x′ (omega arith)) refl) refl
 
   -- the last bit, with the next word taken
@@ -272,10 +272,10 @@ module _ (phase : Bool) (b h : ℕ) where
       let i : b - 1 ≡ c + 1 = omega arith in
       slot-of sm ss (capturedAt w v k c n) (record { tx = ws; rx = q; engine = sending 0 x; lines = bitLines true true (bitOf b w (c + 1)) }) (z .m) (z .s) (z .s)
       (acted-by sm n x0 (u ∷ ws) q _ _ (bitOf b v c && true) (JoinDrive (c + 1)) (begun (sending 0 x0) x) (ti-last b n (omega arith) (omega arith) ∙ ap JoinDrive i)
-      (ap (λ (t : Bool). pick t (begun (sending 0 x0) x) (still (withShift (sending n x0) (driven b (c + 1) x0)))) (waits-cons u ws))
+      (ap (λ (t : Bool). pick t (begun (sending 0 x0) x) (noWord (withShift (sending n x0) (driven b (c + 1) x0)))) (waits-cons u ws))
       (lines-joined 0 x true (ne-eqb (c + 1) 0 (omega arith)) refl))
       (onward-in sm 0 x ws q _ (omega arith))
-      (slave-by ss _ _ (capturedAt w v k c n .s) (still (sending 0 x′)) (sending 0 x′) (shown (bitOf b v (c + 1))) (slave-drives y0 true (bitOf b w c) (bitOf b w (c + 1)) _) (in-word x′ (omega arith)) refl)
+      (slave-by ss _ _ (capturedAt w v k c n .s) (noWord (sending 0 x′)) (sending 0 x′) (shown (bitOf b v (c + 1))) (slave-drives y0 true (bitOf b w c) (bitOf b w (c + 1)) _) (in-word x′ (omega arith)) refl)
       (calm vs r (sending 0 x′) _ _ true true (bitOf b w (c + 1)) false (in-word x′ (omega arith)) refl) refl
 
   -- the last capture, with no word behind it: the frame is over
@@ -310,7 +310,7 @@ module _ (phase : Bool) (b h : ℕ) where
       slot-of sm ss (drivenAt w v u k c 1 true) (record { tx = k .mtx; rx = push (cut b v) (k .mrx); engine = sending 1 x; lines = bitLines false true (bitOf b w c) })
       (t .m) (record { tx = k .stx; rx = push (cut b w) (k .srx); engine = marking; lines = shown (bitOf b v c) }) (t .s)
       (acted-by sm 1 x0 (k .mtx) (k .mrx) _ _ (bitOf b v c && true) JoinCapture (completed (sending 1 x0) (cut b v)) refl
-      (ap (λ (u : Bool). pick u (still (sending 1 x0)) (captureStep b (bitOf b v c && true) (sending 1 x0))) (ne-eqb c 0 (omega arith)) ∙ capture-last b (bitOf b v c && true) (sending 1 x0) (cut b v) l (last-bit b v c l m))
+      (ap (λ (u : Bool). pick u (noWord (sending 1 x0)) (captureStep b (bitOf b v c && true) (sending 1 x0))) (ne-eqb c 0 (omega arith)) ∙ capture-last b (bitOf b v c && true) (sending 1 x0) (cut b v) l (last-bit b v c l m))
       (lines-joined 1 x false (ne-eqb (c + 1) 0 (omega arith)) refl))
       (onward-in sm 1 x (k .mtx) (push (cut b v) (k .mrx)) _ (omega arith))
       (slave-by ss _ _ (drivenAt w v u k c 1 true .s) (completed (withMark (sending 0 y0) true) (cut b w)) marking (shown (bitOf b v c))

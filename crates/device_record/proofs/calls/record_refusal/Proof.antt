@@ -7,16 +7,16 @@ returns : tie.Need-returns
 unfolding recordRefusal
 returns c = rw (c .if1 .taken)
 
-sound-requires : tie.Need-sound-requires
-sound-requires c κs = search needs
+sound-bytes-requires : tie.Need-sound-bytes-requires
+sound-bytes-requires c κs = search needs
 
 returns-2 : tie.Need-returns-2
 unfolding recordRefusal
-returns-2 c = rw (c .before .before .if1 .left, ← c .before .sound .ensures, c .if2 .taken)
+returns-2 c = rw (c .before .before .if1 .left, ← c .before .sound-bytes .ensures, c .if2 .taken)
 
 returns-3 : tie.Need-returns-3
 unfolding recordRefusal
-returns-3 c = rw (c .before .before .if1 .left, ← c .before .sound .ensures, c .if2 .left)
+returns-3 c = rw (c .before .before .if1 .left, ← c .before .sound-bytes .ensures, c .if2 .left)
 
 pub record-refusal-spec : {M : Type 1} → statement M
-record-refusal-spec = tie.close (tie.spec returns sound-requires returns-2 returns-3)
+record-refusal-spec = tie.close (tie.spec returns sound-bytes-requires returns-2 returns-3)

@@ -1,5 +1,5 @@
 use Rattle.serial.specs.Cycle.{deviceOf}
-use Rattle.device_record.specs.Record.{decodeOf}
+use Rattle.device_record.specs.Record.{decode}
 use borrow.Author.Needs.{needs}
 use Rattle.device_record.proofs.record.decode.Statement.{statement}
 use Rattle.device_record.proofs.record.decode.Tie as tie
@@ -23,7 +23,7 @@ lines-from-requires : tie.Need-lines-from-requires
 lines-from-requires c κs = search needs
 
 returns : tie.Need-returns
-unfolding deviceOf decodeOf
+unfolding deviceOf decode
 returns c = rw (c .before .before .before .before .restored .ensures, c .before .before .before .before .before .fields-at .ensures, c .before .before .before .engine-at .ensures, c .before .before .history-at .ensures, c .lines-from .ensures, c .before .byte-at .ensures)
 
 pub decode-spec : {M : Type 1} → statement M

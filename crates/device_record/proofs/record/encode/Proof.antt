@@ -1,7 +1,7 @@
 use Rattle.registers.specs.Model.{modelOf}
 use Rattle.device_record.proofs.Bytes.{put-record}
 use Rattle.serial.specs.Cycle.{deviceOf}
-use Rattle.device_record.specs.Record.{encodeOf, encodedIn}
+use Rattle.device_record.specs.Record.{encoded, encode}
 use borrow.Author.Tests.{eq-eqb, ne-eqb}
 use borrow.Author.Needs.{needs}
 use Rattle.device_record.proofs.record.encode.Statement.{statement}
@@ -20,11 +20,11 @@ same-length : tie.Need-same-length
 same-length c = search needs
 
 returns : tie.Need-returns
-unfolding encodedIn encodeOf deviceOf
+unfolding encode encoded deviceOf
 returns c = rw (eq-eqb _ _ (c .before .before .before .before .before .before .before .before .before .if1 .taken)) (put-record (modelOf (c .before .before .before .before .before .before .before .before .before .before .before .args .d .registers)) (c .before .before .before .before .before .before .before .before .before .before .before .args .d .engine) (c .before .before .before .before .before .before .before .before .before .before .before .args .d .pins) (c .before .before .before .before .before .before .before .before .before .before .before .args .d .lines) (c .before .before .before .before .before .before .put-state .ensures) (c .before .before .put-queues .ensures) (c .before .before .before .before .before .before .before .before .fields-of .ensures) (c .before .before .before .before .before .before .before .before .before .if1 .taken))
 
 returns-2 : tie.Need-returns-2
-unfolding encodedIn
+unfolding encode
 returns-2 c = rw (ne-eqb _ _ (c .if1 .left))
 
 pub encode-spec : {M : Type 1} → statement M

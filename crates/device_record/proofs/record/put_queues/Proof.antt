@@ -10,30 +10,30 @@ word-bytes-requires c κs = search needs
 word-bytes-requires-2 : tie.Need-word-bytes-requires-2
 word-bytes-requires-2 c κs = search needs
 
-slice-aggregate-put : tie.Need-slice-aggregate-put
-slice-aggregate-put c = search needs
+slice-aggregate-put-at : tie.Need-slice-aggregate-put-at
+slice-aggregate-put-at c = search needs
 
-put-requires : tie.Need-put-requires
-put-requires c κs = search needs
+put-at-requires : tie.Need-put-at-requires
+put-at-requires c κs = search needs
 
-slice-aggregate-put-2 : tie.Need-slice-aggregate-put-2
-slice-aggregate-put-2 c = search needs
+slice-aggregate-put-at-2 : tie.Need-slice-aggregate-put-at-2
+slice-aggregate-put-at-2 c = search needs
 
-put-requires-2 : tie.Need-put-requires-2
-put-requires-2 c κs = search needs
+put-at-requires-2 : tie.Need-put-at-requires-2
+put-at-requires-2 c κs = search needs
 
-slice-aggregate-put-3 : tie.Need-slice-aggregate-put-3
-slice-aggregate-put-3 c = search needs
+slice-aggregate-put-at-3 : tie.Need-slice-aggregate-put-at-3
+slice-aggregate-put-at-3 c = search needs
 
-put-requires-3 : tie.Need-put-requires-3
-put-requires-3 c κs = search needs
+put-at-requires-3 : tie.Need-put-at-requires-3
+put-at-requires-3 c κs = search needs
 
 same-length : tie.Need-same-length
 same-length c = search needs
 
 returns : tie.Need-returns
 unfolding queueBytes
-returns c = rw (← c .before .before .before .before .before .before .before .before .before .before .before .before .before .before .before .before .word-bytes .ensures, ← c .before .before .before .before .before .before .before .before .before .before .before .before .before .before .before .word-bytes2 .ensures) (put-three (c .before .before .before .before .before .before .before .before .before .before .before .before .put .ensures) (c .before .before .before .before .before .before .before .put2 .ensures) (c .before .before .put3 .ensures) (c .before .before .before .before .before .before .before .before .before .before .before .before .before .before .before .before .before .before .before .before .pre) (search needs) (search needs))
+returns c = rw (← c .before .before .before .before .before .before .before .before .before .before .before .before .before .before .before .before .word-bytes .ensures, ← c .before .before .before .before .before .before .before .before .before .before .before .before .before .before .before .word-bytes2 .ensures) (put-three (c .before .before .before .before .before .before .before .before .before .before .before .before .put-at .ensures) (c .before .before .before .before .before .before .before .put-at2 .ensures) (c .before .before .put-at3 .ensures) (c .before .before .before .before .before .before .before .before .before .before .before .before .before .before .before .before .before .before .before .before .pre) (search needs) (search needs))
 
 pub put-queues-spec : {M : Type 1} → statement M
 put-queues-spec =
@@ -41,11 +41,11 @@ put-queues-spec =
     (tie.spec
     word-bytes-requires
     word-bytes-requires-2
-    slice-aggregate-put
-    put-requires
-    slice-aggregate-put-2
-    put-requires-2
-    slice-aggregate-put-3
-    put-requires-3
+    slice-aggregate-put-at
+    put-at-requires
+    slice-aggregate-put-at-2
+    put-at-requires-2
+    slice-aggregate-put-at-3
+    put-at-requires-3
     same-length
     returns)

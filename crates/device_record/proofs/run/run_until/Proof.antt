@@ -1,8 +1,8 @@
 use Prim.Native.Nat.{_-_}
-use mathlib.Core.Path.{_≡_, refl, sym, _∙_}
+use mathlib.Core.Path.{_≡_, refl, sym, ap, _∙_}
 use native.Mathlib.Omega.{arith}
 use lib.ListN.{length}
-use Rattle.serial.specs.Cycle.{deviceOf}
+use Rattle.serial.specs.Cycle.{deviceOf, cycleOf}
 use Rattle.device_record.specs.Run.{stopsOn}
 use Rattle.device_record.proofs.Runs.{Running, run-refused, run-begin, run-turn, run-held, run-ended}
 use borrow.Author.Needs.{needs}
@@ -10,10 +10,10 @@ use Rattle.device_record.proofs.run.run_until.Statement.{statement}
 use Rattle.device_record.proofs.run.run_until.Tie as tie
 
 abbrev Inv-loop : tie.InvT-loop
-Inv-loop rule input output₀ device₀ i₀ output device i = Running (stopsOn rule) (deviceOf device₀) input output₀ output (deviceOf device) i
+Inv-loop stop input output₀ device₀ i₀ output device i = Running (stopsOn stop) (deviceOf device₀) input output₀ output (deviceOf device) i
 
 abbrev μ-loop : tie.MeasureT-loop
-μ-loop rule input output₀ device₀ i₀ output device i = length input - i
+μ-loop stop input output₀ device₀ i₀ output device i = length input - i
 
 returns : tie.Need-returns Inv-loop μ-loop
 returns c = run-refused _ _ _ _ (c .if1 .taken)
@@ -21,36 +21,39 @@ returns c = run-refused _ _ _ _ (c .if1 .taken)
 loop-holds : tie.Need-loop-holds Inv-loop μ-loop
 loop-holds c = run-begin _ _ _ _ (c .if1 .left)
 
-stops-requires : tie.Need-stops-requires Inv-loop μ-loop
-stops-requires c κs = search needs
+stops-on-requires : tie.Need-stops-on-requires Inv-loop μ-loop
+stops-on-requires c κs = search needs
 
 same-length : tie.Need-same-length Inv-loop μ-loop
 same-length c = c .before .before .before .loop .inv .same
 
 returns-2 : tie.Need-returns-2 Inv-loop μ-loop
-returns-2 c = run-held _ _ _ _ _ _ _ (c .before .before .before .loop .inv) _ refl (sym (c .before .stops .ensures) ∙ c .if2 .taken)
+returns-2 c = run-held _ _ _ _ _ _ _ (c .before .before .before .loop .inv) _ refl (sym (c .before .stops-on .ensures) ∙ c .if2 .taken)
 
-shared-slice-read-stepped : tie.Need-shared-slice-read-stepped Inv-loop μ-loop
-shared-slice-read-stepped c = omega arith
+shared-slice-read-pins-of : tie.Need-shared-slice-read-pins-of Inv-loop μ-loop
+shared-slice-read-pins-of c = omega arith
 
-stepped-requires : tie.Need-stepped-requires Inv-loop μ-loop
-stepped-requires c κs = search needs
+pins-of-requires : tie.Need-pins-of-requires Inv-loop μ-loop
+pins-of-requires c κs = search needs
+
+cycle-of-requires : tie.Need-cycle-of-requires Inv-loop μ-loop
+cycle-of-requires c κs = search needs
 
 byte-of-requires : tie.Need-byte-of-requires Inv-loop μ-loop
 byte-of-requires c κs = search needs
 
 slice-write-output : tie.Need-slice-write-output Inv-loop μ-loop
-slice-write-output c = let r = c .before .before .before .before .before .before .loop .inv in omega (arith, r .same, r .long)
+slice-write-output c = let r = c .before .before .before .before .before .before .before .loop .inv in omega (arith, r .same, r .long)
 
 add-i : tie.Need-add-i Inv-loop μ-loop
-add-i c = let h = c .before .before .before .before .before .loop-test .taken in let g = c .before .before .before .before .before .before .before .before .before .before .good in omega arith
+add-i c = let h = c .before .before .before .before .before .before .loop-test .taken in let g = c .before .before .before .before .before .before .before .before .before .before .before .good in omega arith
 
 loop-less : tie.Need-loop-less Inv-loop μ-loop
 loop-less c = omega arith
 
 loop-again : tie.Need-loop-again Inv-loop μ-loop
 unfolding deviceOf
-loop-again c = run-turn _ _ _ _ _ _ _ (c .before .before .before .before .before .before .loop .inv) _ _ (c .before .before .before .before .before .loop-test .taken) (sym (c .before .before .before .before .stops .ensures) ∙ c .before .before .before .if2 .left) (c .before .stepped .ensures) (c .byte-of .ensures)
+loop-again c = run-turn _ _ _ _ _ _ _ (c .before .before .before .before .before .before .before .loop .inv) _ _ (c .before .before .before .before .before .before .loop-test .taken) (sym (c .before .before .before .before .before .stops-on .ensures) ∙ c .before .before .before .before .if2 .left) (c .before .cycle-of .ensures ∙ ap (cycleOf _) (c .before .before .pins-of .ensures)) (c .byte-of .ensures)
 
 same-length-2 : tie.Need-same-length-2 Inv-loop μ-loop
 same-length-2 c = c .before .loop .inv .same
@@ -66,11 +69,12 @@ run-until-spec =
     μ-loop
     returns
     loop-holds
-    stops-requires
+    stops-on-requires
     same-length
     returns-2
-    shared-slice-read-stepped
-    stepped-requires
+    shared-slice-read-pins-of
+    pins-of-requires
+    cycle-of-requires
     byte-of-requires
     slice-write-output
     add-i

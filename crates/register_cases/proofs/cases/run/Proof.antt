@@ -14,8 +14,8 @@ abbrev μ-loop : tie.MeasureT-loop
 no-command-requires : tie.Need-no-command-requires Inv-loop μ-loop
 no-command-requires c κs = search needs
 
-reset-requires : tie.Need-reset-requires Inv-loop μ-loop
-reset-requires c κs = search needs
+reset-registers-requires : tie.Need-reset-registers-requires Inv-loop μ-loop
+reset-registers-requires c κs = search needs
 
 run-requires : tie.Need-run-requires Inv-loop μ-loop
 run-requires c κs = search needs
@@ -48,7 +48,7 @@ run-spec =
     Inv-loop
     μ-loop
     no-command-requires
-    reset-requires
+    reset-registers-requires
     run-requires
     loop-holds
     shared-slice-read-next-state

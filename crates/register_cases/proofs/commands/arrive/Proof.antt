@@ -16,8 +16,8 @@ loop-holds c = search needs
 add-i : tie.Need-add-i Inv-loop μ-loop
 add-i c = search needs
 
-receive-requires : tie.Need-receive-requires Inv-loop μ-loop
-receive-requires c κs = search needs
+receive-word-requires : tie.Need-receive-word-requires Inv-loop μ-loop
+receive-word-requires c κs = search needs
 
 loop-less : tie.Need-loop-less Inv-loop μ-loop
 loop-less c = search needs
@@ -31,4 +31,4 @@ returns c = search needs
 pub arrive-spec : {M : Type 1} → statement M
 arrive-spec =
     tie.close
-    (tie.spec Inv-loop μ-loop loop-holds add-i receive-requires loop-less loop-again returns)
+    (tie.spec Inv-loop μ-loop loop-holds add-i receive-word-requires loop-less loop-again returns)

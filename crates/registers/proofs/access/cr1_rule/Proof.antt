@@ -10,11 +10,11 @@ enabled-requires c κs = search needs
 cast-old : tie.Need-cast-old
 cast-old c = search needs
 
-cast-permitted : tie.Need-cast-permitted
-cast-permitted c = search needs
+cast-permitted-of : tie.Need-cast-permitted-of
+cast-permitted-of c = search needs
 
-permitted-requires : tie.Need-permitted-requires
-permitted-requires c κs = search needs
+permitted-of-requires : tie.Need-permitted-of-requires
+permitted-of-requires c κs = search needs
 
 returns : tie.Need-returns
 unfolding cr1Rule
@@ -22,11 +22,11 @@ returns c = rw (← c .before .before .before .before .before .enabled .ensures,
 
 returns-2 : tie.Need-returns-2
 unfolding cr1Rule
-returns-2 c = rw (← c .before .before .before .before .before .before .enabled .ensures, model-of, c .before .if1 .left, ← c .before .before .before .permitted .ensures, c .if2 .taken)
+returns-2 c = rw (← c .before .before .before .before .before .before .enabled .ensures, model-of, c .before .if1 .left, ← c .before .before .before .permitted-of .ensures, c .if2 .taken)
 
 returns-3 : tie.Need-returns-3
 unfolding cr1Rule
-returns-3 c = rw (← c .before .before .before .before .before .before .enabled .ensures, model-of, c .before .if1 .left, ← c .before .before .before .permitted .ensures, c .if2 .left)
+returns-3 c = rw (← c .before .before .before .before .before .before .enabled .ensures, model-of, c .before .if1 .left, ← c .before .before .before .permitted-of .ensures, c .if2 .left)
 
 pub cr1-rule-spec : {M : Type 1} → statement M
 cr1-rule-spec =
@@ -34,8 +34,8 @@ cr1-rule-spec =
     (tie.spec
     enabled-requires
     cast-old
-    cast-permitted
-    permitted-requires
+    cast-permitted-of
+    permitted-of-requires
     returns
     returns-2
     returns-3)

@@ -21,8 +21,8 @@ word-at-requires c κs = search needs
 enum-told-4 : tie.Need-enum-told-4
 enum-told-4 c = search needs
 
-status-requires : tie.Need-status-requires
-status-requires c κs = search needs
+status-of-requires : tie.Need-status-of-requires
+status-of-requires c κs = search needs
 
 enum-told-5 : tie.Need-enum-told-5
 enum-told-5 c = search needs
@@ -39,8 +39,8 @@ cast-result-3 c = search needs
 enum-told-7 : tie.Need-enum-told-7
 enum-told-7 c = search needs
 
-raw-requires : tie.Need-raw-requires
-raw-requires c κs = search needs
+raw-of-requires : tie.Need-raw-of-requires
+raw-of-requires c κs = search needs
 
 interrupt-word-requires : tie.Need-interrupt-word-requires
 interrupt-word-requires c κs = search needs
@@ -48,8 +48,8 @@ interrupt-word-requires c κs = search needs
 enum-told-8 : tie.Need-enum-told-8
 enum-told-8 c = search needs
 
-masked-requires : tie.Need-masked-requires
-masked-requires c κs = search needs
+masked-of-requires : tie.Need-masked-of-requires
+masked-of-requires c κs = search needs
 
 interrupt-word-requires-2 : tie.Need-interrupt-word-requires-2
 interrupt-word-requires-2 c κs = search needs
@@ -63,11 +63,11 @@ enum-told-10 c = search needs
 cast-result-4 : tie.Need-cast-result-4
 cast-result-4 c = search needs
 
-enum-known-place : tie.Need-enum-known-place
-enum-known-place c = search needs
+enum-known-register : tie.Need-enum-known-register
+enum-known-register c = search needs
 
-identity-requires : tie.Need-identity-requires
-identity-requires c κs = search needs
+identity-of-requires : tie.Need-identity-of-requires
+identity-of-requires c κs = search needs
 
 cast-result-5 : tie.Need-cast-result-5
 cast-result-5 c = search needs
@@ -88,7 +88,7 @@ returns-3 : tie.Need-returns-3
 returns-3 c = rw (c .before .enum-told3 .given .1) (simp (model-of, c .word-at .ensures))
 
 returns-4 : tie.Need-returns-4
-returns-4 c = rw (c .before .enum-told4 .given .1) (c .status .ensures)
+returns-4 c = rw (c .before .enum-told4 .given .1) (c .status-of .ensures)
 
 returns-5 : tie.Need-returns-5
 returns-5 c = rw (c .before .enum-told5 .given .1) (simp model-of)
@@ -97,10 +97,10 @@ returns-6 : tie.Need-returns-6
 returns-6 c = rw (c .before .enum-told6 .given .1) (simp model-of)
 
 returns-7 : tie.Need-returns-7
-returns-7 c = rw (c .before .before .enum-told7 .given .1, c .interrupt-word .ensures, c .before .raw .ensures)
+returns-7 c = rw (c .before .before .enum-told7 .given .1, c .interrupt-word .ensures, c .before .raw-of .ensures)
 
 returns-8 : tie.Need-returns-8
-returns-8 c = rw (c .before .before .enum-told8 .given .1, c .interrupt-word2 .ensures, c .before .masked .ensures)
+returns-8 c = rw (c .before .before .enum-told8 .given .1, c .interrupt-word2 .ensures, c .before .masked-of .ensures)
 
 returns-9 : tie.Need-returns-9
 returns-9 c = rw (c .enum-told9 .given .1)
@@ -109,7 +109,7 @@ returns-10 : tie.Need-returns-10
 returns-10 c = rw (c .before .enum-told10 .given .1) (simp model-of)
 
 returns-11 : tie.Need-returns-11
-returns-11 c = rw (c .before .before .place .given .1) (c .identity .ensures)
+returns-11 c = rw (c .before .before .register .given .1) (c .identity-of .ensures)
 
 returns-12 : tie.Need-returns-12
 returns-12 c = rw (c .enum-told11 .given .1)
@@ -127,22 +127,22 @@ read-word-spec =
     enum-told-3
     word-at-requires
     enum-told-4
-    status-requires
+    status-of-requires
     enum-told-5
     cast-result-2
     enum-told-6
     cast-result-3
     enum-told-7
-    raw-requires
+    raw-of-requires
     interrupt-word-requires
     enum-told-8
-    masked-requires
+    masked-of-requires
     interrupt-word-requires-2
     enum-told-9
     enum-told-10
     cast-result-4
-    enum-known-place
-    identity-requires
+    enum-known-register
+    identity-of-requires
     cast-result-5
     enum-told-11
     enum-told-12

@@ -1,5 +1,5 @@
 use Rattle.registers.specs.Model.Inside.{model-of}
-use Rattle.registers.specs.Fields.{modelFrom}
+use Rattle.registers.specs.Fields.{restored}
 use borrow.Author.Needs.{needs}
 use Rattle.registers.proofs.fields.restored.Statement.{statement}
 use Rattle.registers.proofs.fields.restored.Tie as tie
@@ -17,7 +17,7 @@ restored-requires-2 : tie.Need-restored-requires-2
 restored-requires-2 c κs = search needs
 
 returns : tie.Need-returns
-unfolding modelFrom
+unfolding restored
 returns c = rw (model-of, c .before .before .restored .ensures .holds, c .restored2 .ensures .holds)
 
 pub restored-spec : {M : Type 1} → statement M

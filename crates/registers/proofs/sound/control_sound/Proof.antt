@@ -3,19 +3,19 @@ use borrow.Author.Needs.{needs}
 use Rattle.registers.proofs.sound.control_sound.Statement.{statement}
 use Rattle.registers.proofs.sound.control_sound.Tie as tie
 
-cast-permitted : tie.Need-cast-permitted
-cast-permitted c = search needs
+cast-permitted-of : tie.Need-cast-permitted-of
+cast-permitted-of c = search needs
 
-permitted-requires : tie.Need-permitted-requires
-permitted-requires c κs = search needs
+permitted-of-requires : tie.Need-permitted-of-requires
+permitted-of-requires c κs = search needs
 
 enabled-of-requires : tie.Need-enabled-of-requires
 enabled-of-requires c κs = search needs
 
 returns : tie.Need-returns
 unfolding controlSound
-returns c = rw (c .before .before .before .before .before .permitted .ensures, c .before .before .before .before .enabled-of .ensures)
+returns c = rw (c .before .before .before .before .before .permitted-of .ensures, c .before .before .before .before .enabled-of .ensures)
 
 pub control-sound-spec : {M : Type 1} → statement M
 control-sound-spec =
-    tie.close (tie.spec cast-permitted permitted-requires enabled-of-requires returns)
+    tie.close (tie.spec cast-permitted-of permitted-of-requires enabled-of-requires returns)

@@ -22,12 +22,12 @@ returns-2 c = c .master-step .ensures ∙ sym (pick-yes _ _ (c .before .before .
 cleared-requires : tie.Need-cleared-requires
 cleared-requires c κs = search needs
 
-still-requires : tie.Need-still-requires
-still-requires c κs = search needs
+no-word-requires : tie.Need-no-word-requires
+no-word-requires c κs = search needs
 
 returns-3 : tie.Need-returns-3
 unfolding stepOf
-returns-3 c = rw (c .before .before .if1 .left, c .still .ensures, c .before .cleared .ensures)
+returns-3 c = rw (c .before .before .if1 .left, c .no-word .ensures, c .before .cleared .ensures)
 
 pub step-of-spec : {M : Type 1} → statement M
 step-of-spec =
@@ -38,5 +38,5 @@ step-of-spec =
     master-step-requires
     returns-2
     cleared-requires
-    still-requires
+    no-word-requires
     returns-3)

@@ -26,8 +26,8 @@ begun-requires-2 c κs = search needs
 enum-known-event : tie.Need-enum-known-event
 enum-known-event c = search needs
 
-drive-requires : tie.Need-drive-requires
-drive-requires c κs = search needs
+drive-step-requires : tie.Need-drive-step-requires
+drive-step-requires c κs = search needs
 
 enum-told-3 : tie.Need-enum-told-3
 enum-told-3 c = search needs
@@ -41,8 +41,8 @@ started-requires-2 c κs = search needs
 with-shift-requires : tie.Need-with-shift-requires
 with-shift-requires c κs = search needs
 
-still-requires : tie.Need-still-requires
-still-requires c κs = search needs
+no-word-requires : tie.Need-no-word-requires
+no-word-requires c κs = search needs
 
 enum-told-4 : tie.Need-enum-told-4
 enum-told-4 c = search needs
@@ -53,14 +53,14 @@ capture-step-requires c κs = search needs
 enum-known-event-2 : tie.Need-enum-known-event-2
 enum-known-event-2 c = search needs
 
-chain-requires : tie.Need-chain-requires
-chain-requires c κs = search needs
+chain-step-requires : tie.Need-chain-step-requires
+chain-step-requires c κs = search needs
 
 enum-known-event-3 : tie.Need-enum-known-event-3
 enum-known-event-3 c = search needs
 
-join-drive-requires : tie.Need-join-drive-requires
-join-drive-requires c κs = search needs
+join-step-requires : tie.Need-join-step-requires
+join-step-requires c κs = search needs
 
 enum-told-5 : tie.Need-enum-told-5
 enum-told-5 c = search needs
@@ -77,8 +77,8 @@ quieted-requires c κs = search needs
 with-shift-requires-2 : tie.Need-with-shift-requires-2
 with-shift-requires-2 c κs = search needs
 
-still-requires-2 : tie.Need-still-requires-2
-still-requires-2 c κs = search needs
+no-word-requires-2 : tie.Need-no-word-requires-2
+no-word-requires-2 c κs = search needs
 
 enum-told-7 : tie.Need-enum-told-7
 enum-told-7 c = search needs
@@ -89,14 +89,14 @@ clear-shift-requires c κs = search needs
 with-frame-requires : tie.Need-with-frame-requires
 with-frame-requires c κs = search needs
 
-still-requires-3 : tie.Need-still-requires-3
-still-requires-3 c κs = search needs
+no-word-requires-3 : tie.Need-no-word-requires-3
+no-word-requires-3 c κs = search needs
 
 enum-told-8 : tie.Need-enum-told-8
 enum-told-8 c = search needs
 
-still-requires-4 : tie.Need-still-requires-4
-still-requires-4 c κs = search needs
+no-word-requires-4 : tie.Need-no-word-requires-4
+no-word-requires-4 c κs = search needs
 
 returns : tie.Need-returns
 returns c = rw (c .before .before .enum-told .given .1, c .begun .ensures, c .before .loaded .ensures)
@@ -105,31 +105,31 @@ returns-2 : tie.Need-returns-2
 returns-2 c = rw (c .before .before .before .enum-told2 .given .1, c .begun2 .ensures, c .before .started .ensures, c .before .before .width-of .ensures)
 
 returns-3 : tie.Need-returns-3
-returns-3 c = rw (c .before .before .event .given .1) (c .drive .ensures)
+returns-3 c = rw (c .before .before .event .given .1) (c .drive-step .ensures)
 
 returns-4 : tie.Need-returns-4
-returns-4 c = rw (c .before .before .before .before .enum-told3 .given .1, c .still .ensures, c .before .with-shift .ensures, c .before .before .started2 .ensures, c .before .before .before .width-of2 .ensures)
+returns-4 c = rw (c .before .before .before .before .enum-told3 .given .1, c .no-word .ensures, c .before .with-shift .ensures, c .before .before .started2 .ensures, c .before .before .before .width-of2 .ensures)
 
 returns-5 : tie.Need-returns-5
 returns-5 c = rw (c .before .enum-told4 .given .1) (c .capture-step .ensures)
 
 returns-6 : tie.Need-returns-6
-returns-6 c = rw (c .before .before .event2 .given .1) (c .chain .ensures)
+returns-6 c = rw (c .before .before .event2 .given .1) (c .chain-step .ensures)
 
 returns-7 : tie.Need-returns-7
-returns-7 c = rw (c .before .before .event3 .given .1) (c .join-drive .ensures)
+returns-7 c = rw (c .before .before .event3 .given .1) (c .join-step .ensures)
 
 returns-8 : tie.Need-returns-8
 returns-8 c = rw (c .before .enum-told5 .given .1) (c .join-capture .ensures)
 
 returns-9 : tie.Need-returns-9
-returns-9 c = rw (c .before .before .before .enum-told6 .given .1, c .still2 .ensures, c .before .with-shift2 .ensures, c .before .before .quieted .ensures)
+returns-9 c = rw (c .before .before .before .enum-told6 .given .1, c .no-word2 .ensures, c .before .with-shift2 .ensures, c .before .before .quieted .ensures)
 
 returns-10 : tie.Need-returns-10
-returns-10 c = rw (c .before .before .before .enum-told7 .given .1, c .still3 .ensures, c .before .with-frame .ensures, c .before .before .clear-shift .ensures)
+returns-10 c = rw (c .before .before .before .enum-told7 .given .1, c .no-word3 .ensures, c .before .with-frame .ensures, c .before .before .clear-shift .ensures)
 
 returns-11 : tie.Need-returns-11
-returns-11 c = rw (c .before .enum-told8 .given .1, c .still4 .ensures)
+returns-11 c = rw (c .before .enum-told8 .given .1, c .no-word4 .ensures)
 
 pub act-spec : {M : Type 1} → statement M
 act-spec =
@@ -143,30 +143,30 @@ act-spec =
     started-requires
     begun-requires-2
     enum-known-event
-    drive-requires
+    drive-step-requires
     enum-told-3
     width-of-requires-2
     started-requires-2
     with-shift-requires
-    still-requires
+    no-word-requires
     enum-told-4
     capture-step-requires
     enum-known-event-2
-    chain-requires
+    chain-step-requires
     enum-known-event-3
-    join-drive-requires
+    join-step-requires
     enum-told-5
     join-capture-requires
     enum-told-6
     quieted-requires
     with-shift-requires-2
-    still-requires-2
+    no-word-requires-2
     enum-told-7
     clear-shift-requires
     with-frame-requires
-    still-requires-3
+    no-word-requires-3
     enum-told-8
-    still-requires-4
+    no-word-requires-4
     returns
     returns-2
     returns-3

@@ -2,11 +2,11 @@ use borrow.Author.Needs.{needs}
 use Rattle.serial.proofs.master.join_capture.Statement.{statement}
 use Rattle.serial.proofs.master.join_capture.Tie as tie
 
-still-requires : tie.Need-still-requires
-still-requires c κs = search needs
+no-word-requires : tie.Need-no-word-requires
+no-word-requires c κs = search needs
 
 returns : tie.Need-returns
-returns c = rw (c .before .if1 .taken) (c .still .ensures)
+returns c = rw (c .before .if1 .taken) (c .no-word .ensures)
 
 capture-step-requires : tie.Need-capture-step-requires
 capture-step-requires c κs = search needs
@@ -15,4 +15,4 @@ returns-2 : tie.Need-returns-2
 returns-2 c = rw (c .before .if1 .left) (c .capture-step .ensures)
 
 pub join-capture-spec : {M : Type 1} → statement M
-join-capture-spec = tie.close (tie.spec still-requires returns capture-step-requires returns-2)
+join-capture-spec = tie.close (tie.spec no-word-requires returns capture-step-requires returns-2)

@@ -19,12 +19,12 @@ returns : tie.Need-returns
 unfolding masterStep
 returns c = rw (← c .before .before .before .before .acting .ensures, c .before .before .before .if1 .taken, c .act .ensures, c .before .before .event-of .ensures, c .before .data-bit .ensures)
 
-still-requires : tie.Need-still-requires
-still-requires c κs = search needs
+no-word-requires : tie.Need-no-word-requires
+no-word-requires c κs = search needs
 
 returns-2 : tie.Need-returns-2
 unfolding masterStep
-returns-2 c = rw (← c .before .before .acting .ensures, c .before .if1 .left, c .still .ensures)
+returns-2 c = rw (← c .before .before .acting .ensures, c .before .if1 .left, c .no-word .ensures)
 
 pub master-step-spec : {M : Type 1} → statement M
 master-step-spec =
@@ -35,5 +35,5 @@ master-step-spec =
     data-bit-requires
     act-requires
     returns
-    still-requires
+    no-word-requires
     returns-2)

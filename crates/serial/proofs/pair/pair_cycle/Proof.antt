@@ -10,16 +10,16 @@ wire-requires c κs = search needs
 wire-requires-2 : tie.Need-wire-requires-2
 wire-requires-2 c κs = search needs
 
-cycle-requires : tie.Need-cycle-requires
-cycle-requires c κs = search needs
+cycle-of-requires : tie.Need-cycle-of-requires
+cycle-of-requires c κs = search needs
 
-cycle-requires-2 : tie.Need-cycle-requires-2
-cycle-requires-2 c κs = search needs
+cycle-of-requires-2 : tie.Need-cycle-of-requires-2
+cycle-of-requires-2 c κs = search needs
 
 returns : tie.Need-returns
 unfolding pairOf pairCycle
-returns c = rw (c .before .cycle .ensures, c .cycle2 .ensures, c .before .before .before .wire .ensures, c .before .before .wire2 .ensures, device-lines (c .before .before .before .before .before .before .args .p .first), device-lines (c .before .before .before .before .before .before .args .p .second))
+returns c = rw (c .before .cycle-of .ensures, c .cycle-of2 .ensures, c .before .before .before .wire .ensures, c .before .before .wire2 .ensures, device-lines (c .before .before .before .before .before .before .args .p .first), device-lines (c .before .before .before .before .before .before .args .p .second))
 
 pub pair-cycle-spec : {M : Type 1} → statement M
 pair-cycle-spec =
-    tie.close (tie.spec wire-requires wire-requires-2 cycle-requires cycle-requires-2 returns)
+    tie.close (tie.spec wire-requires wire-requires-2 cycle-of-requires cycle-of-requires-2 returns)

@@ -3,13 +3,13 @@ use Prim.Native.Nat.{_+_, _-_, _≤_}
 use mathlib.Core.Path.{_≡_, sym, _∙_}
 use native.Mathlib.Nat.{sub-zero}
 use borrow.Author.Needs.{needs}
-use Rattle.serial.specs.Pair.{pairOf, later}
-use Rattle.serial.proofs.Wiring.{later-next, later-none}
+use Rattle.serial.specs.Pair.{pairOf, pairRun}
+use Rattle.serial.proofs.Wiring.{pair-run-next, pair-run-none}
 use Rattle.serial.proofs.pair.pair_run.Statement.{statement}
 use Rattle.serial.proofs.pair.pair_run.Tie as tie
 
 abbrev Inv-loop : tie.InvT-loop
-Inv-loop cycles d₀ i₀ d i = (i ≤ cycles) × (later cycles (pairOf d₀) ≡ later (cycles - i) (pairOf d))
+Inv-loop cycles d₀ i₀ d i = (i ≤ cycles) × (pairRun cycles (pairOf d₀) ≡ pairRun (cycles - i) (pairOf d))
 
 abbrev μ-loop : tie.MeasureT-loop
 μ-loop cycles d₀ i₀ d i = cycles - i
@@ -27,10 +27,10 @@ loop-less : tie.Need-loop-less Inv-loop μ-loop
 loop-less c = search needs
 
 loop-again : tie.Need-loop-again Inv-loop μ-loop
-loop-again c = (search needs, c .before .before .loop .inv .1 ∙ later-next _ _ _ _ (c .before .loop-test .taken) (c .pair-cycle .ensures))
+loop-again c = (search needs, c .before .before .loop .inv .1 ∙ pair-run-next _ _ _ _ (c .before .loop-test .taken) (c .pair-cycle .ensures))
 
 returns : tie.Need-returns Inv-loop μ-loop
-returns c = sym (c .before .loop .inv .1 ∙ later-none _ _ _ (c .loop-test .left))
+returns c = sym (c .before .loop .inv .1 ∙ pair-run-none _ _ _ (c .loop-test .left))
 
 pub pair-run-spec : {M : Type 1} → statement M
 pair-run-spec =

@@ -22,12 +22,12 @@ driven-requires c κs = search needs
 with-shift-requires : tie.Need-with-shift-requires
 with-shift-requires c κs = search needs
 
-still-requires : tie.Need-still-requires
-still-requires c κs = search needs
+no-word-requires : tie.Need-no-word-requires
+no-word-requires c κs = search needs
 
 returns-2 : tie.Need-returns-2
 unfolding motorolaClock
-returns-2 c = rw (c .before .before .before .before .before .before .before .if1 .left, c .before .before .before .before .before .before .if2 .taken, c .still .ensures, c .before .with-shift .ensures, c .before .before .driven .ensures)
+returns-2 c = rw (c .before .before .before .before .before .before .before .if1 .left, c .before .before .before .before .before .before .if2 .taken, c .no-word .ensures, c .before .with-shift .ensures, c .before .before .driven .ensures)
 
 cast-started : tie.Need-cast-started
 cast-started c = search needs
@@ -42,12 +42,12 @@ returns-3 : tie.Need-returns-3
 unfolding motorolaClock
 returns-3 c = rw (c .before .before .before .before .before .if1 .left, c .before .before .before .before .if2 .left, c .before .before .before .if3 .taken, c .begun .ensures, c .before .started .ensures)
 
-still-requires-2 : tie.Need-still-requires-2
-still-requires-2 c κs = search needs
+no-word-requires-2 : tie.Need-no-word-requires-2
+no-word-requires-2 c κs = search needs
 
 returns-4 : tie.Need-returns-4
 unfolding motorolaClock
-returns-4 c = rw (c .before .before .before .if1 .left, c .before .before .if2 .left, c .before .if3 .left, c .still2 .ensures)
+returns-4 c = rw (c .before .before .before .if1 .left, c .before .before .if2 .left, c .before .if3 .left, c .no-word2 .ensures)
 
 pub motorola-clock-spec : {M : Type 1} → statement M
 motorola-clock-spec =
@@ -59,11 +59,11 @@ motorola-clock-spec =
     cast-driven-2
     driven-requires
     with-shift-requires
-    still-requires
+    no-word-requires
     returns-2
     cast-started
     started-requires
     begun-requires
     returns-3
-    still-requires-2
+    no-word-requires-2
     returns-4)

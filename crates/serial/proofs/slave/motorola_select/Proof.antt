@@ -6,12 +6,12 @@ use Rattle.serial.proofs.slave.motorola_select.Tie as tie
 selected-of-requires : tie.Need-selected-of-requires
 selected-of-requires c κs = search needs
 
-still-requires : tie.Need-still-requires
-still-requires c κs = search needs
+no-word-requires : tie.Need-no-word-requires
+no-word-requires c κs = search needs
 
 returns : tie.Need-returns
 unfolding motorolaSelect
-returns c = rw (c .before .before .before .if1 .taken, c .before .if2 .taken, c .still .ensures, c .before .before .selected-of .ensures)
+returns c = rw (c .before .before .before .if1 .taken, c .before .if2 .taken, c .no-word .ensures, c .before .before .selected-of .ensures)
 
 cast-started : tie.Need-cast-started
 cast-started c = search needs
@@ -26,23 +26,23 @@ returns-2 : tie.Need-returns-2
 unfolding motorolaSelect
 returns-2 c = rw (c .before .before .before .before .before .if1 .taken, c .before .before .before .if2 .left, c .begun .ensures, c .before .before .before .before .selected-of .ensures, c .before .started .ensures)
 
-still-requires-2 : tie.Need-still-requires-2
-still-requires-2 c κs = search needs
+no-word-requires-2 : tie.Need-no-word-requires-2
+no-word-requires-2 c κs = search needs
 
 returns-3 : tie.Need-returns-3
 unfolding motorolaSelect
-returns-3 c = rw (c .before .if1 .left, c .still2 .ensures)
+returns-3 c = rw (c .before .if1 .left, c .no-word2 .ensures)
 
 pub motorola-select-spec : {M : Type 1} → statement M
 motorola-select-spec =
     tie.close
     (tie.spec
     selected-of-requires
-    still-requires
+    no-word-requires
     returns
     cast-started
     started-requires
     begun-requires
     returns-2
-    still-requires-2
+    no-word-requires-2
     returns-3)

@@ -8,12 +8,12 @@ use Rattle.serial.proofs.slave.motorola_slave.Tie as tie
 cleared-requires : tie.Need-cleared-requires
 cleared-requires c κs = search needs
 
-still-requires : tie.Need-still-requires
-still-requires c κs = search needs
+no-word-requires : tie.Need-no-word-requires
+no-word-requires c κs = search needs
 
 returns : tie.Need-returns
 unfolding motorolaSlave
-returns c = rw (c .before .before .if1 .taken, c .still .ensures, c .before .cleared .ensures)
+returns c = rw (c .before .before .if1 .taken, c .no-word .ensures, c .before .cleared .ensures)
 
 motorola-select-requires : tie.Need-motorola-select-requires
 motorola-select-requires c κs = search needs
@@ -30,7 +30,7 @@ motorola-slave-spec =
     tie.close
     (tie.spec
     cleared-requires
-    still-requires
+    no-word-requires
     returns
     motorola-select-requires
     motorola-edges-requires

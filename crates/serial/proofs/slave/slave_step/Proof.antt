@@ -23,8 +23,8 @@ enum-told-3 c = search needs
 cleared-requires : tie.Need-cleared-requires
 cleared-requires c κs = search needs
 
-still-requires : tie.Need-still-requires
-still-requires c κs = search needs
+no-word-requires : tie.Need-no-word-requires
+no-word-requires c κs = search needs
 
 enum-told-4 : tie.Need-enum-told-4
 enum-told-4 c = search needs
@@ -32,8 +32,8 @@ enum-told-4 c = search needs
 cleared-requires-2 : tie.Need-cleared-requires-2
 cleared-requires-2 c κs = search needs
 
-still-requires-2 : tie.Need-still-requires-2
-still-requires-2 c κs = search needs
+no-word-requires-2 : tie.Need-no-word-requires-2
+no-word-requires-2 c κs = search needs
 
 returns : tie.Need-returns
 unfolding slaveStep
@@ -45,11 +45,11 @@ returns-2 c = c .ti-slave .ensures ∙ sym (ap (λ (f : Format). slaveOn f (c .b
 
 returns-3 : tie.Need-returns-3
 unfolding slaveStep
-returns-3 c = rw (c .before .before .enum-told3 .given .1, c .still .ensures, c .before .cleared .ensures)
+returns-3 c = rw (c .before .before .enum-told3 .given .1, c .no-word .ensures, c .before .cleared .ensures)
 
 returns-4 : tie.Need-returns-4
 unfolding slaveStep
-returns-4 c = rw (c .before .before .enum-told4 .given .1, c .still2 .ensures, c .before .cleared2 .ensures)
+returns-4 c = rw (c .before .before .enum-told4 .given .1, c .no-word2 .ensures, c .before .cleared2 .ensures)
 
 pub slave-step-spec : {M : Type 1} → statement M
 slave-step-spec =
@@ -61,10 +61,10 @@ slave-step-spec =
     ti-slave-requires
     enum-told-3
     cleared-requires
-    still-requires
+    no-word-requires
     enum-told-4
     cleared-requires-2
-    still-requires-2
+    no-word-requires-2
     returns
     returns-2
     returns-3

@@ -26,12 +26,12 @@ with-frame-requires c κs = search needs
 with-mark-requires-2 : tie.Need-with-mark-requires-2
 with-mark-requires-2 c κs = search needs
 
-still-requires : tie.Need-still-requires
-still-requires c κs = search needs
+no-word-requires : tie.Need-no-word-requires
+no-word-requires c κs = search needs
 
 returns : tie.Need-returns
 unfolding tiFalls
-returns c = rw (c .before .before .before .before .before .if1 .taken, c .before .before .before .before .if2 .taken, c .still .ensures, c .before .with-mark2 .ensures, c .before .before .with-frame .ensures, c .before .before .before .clear-shift .ensures)
+returns c = rw (c .before .before .before .before .before .if1 .taken, c .before .before .before .before .if2 .taken, c .no-word .ensures, c .before .with-mark2 .ensures, c .before .before .with-frame .ensures, c .before .before .before .clear-shift .ensures)
 
 capture-step-requires : tie.Need-capture-step-requires
 capture-step-requires c κs = search needs
@@ -40,12 +40,12 @@ returns-2 : tie.Need-returns-2
 unfolding tiFalls
 returns-2 c = rw (c .capture-step .ensures, c .before .before .before .with-mark .ensures) (sym (pick-yes _ _ (c .before .before .if1 .taken) ∙ pick-no _ _ (c .before .if2 .left)))
 
-still-requires-2 : tie.Need-still-requires-2
-still-requires-2 c κs = search needs
+no-word-requires-2 : tie.Need-no-word-requires-2
+no-word-requires-2 c κs = search needs
 
 returns-3 : tie.Need-returns-3
 unfolding tiFalls
-returns-3 c = rw (c .still2 .ensures, c .before .before .with-mark .ensures) (sym (pick-no _ _ (c .before .if1 .left)))
+returns-3 c = rw (c .no-word2 .ensures, c .before .before .with-mark .ensures) (sym (pick-no _ _ (c .before .if1 .left)))
 
 pub ti-falls-spec : {M : Type 1} → statement M
 ti-falls-spec =
@@ -58,9 +58,9 @@ ti-falls-spec =
     clear-shift-requires
     with-frame-requires
     with-mark-requires-2
-    still-requires
+    no-word-requires
     returns
     capture-step-requires
     returns-2
-    still-requires-2
+    no-word-requires-2
     returns-3)

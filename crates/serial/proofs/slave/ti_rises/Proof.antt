@@ -33,19 +33,19 @@ driven-requires c κs = search needs
 with-shift-requires : tie.Need-with-shift-requires
 with-shift-requires c κs = search needs
 
-still-requires : tie.Need-still-requires
-still-requires c κs = search needs
+no-word-requires : tie.Need-no-word-requires
+no-word-requires c κs = search needs
 
 returns-2 : tie.Need-returns-2
 unfolding tiRises
-returns-2 c = rw (c .still .ensures, c .before .with-shift .ensures, c .before .before .driven .ensures) (sym (pick-no _ _ (c .before .before .before .before .before .before .before .if1 .left) ∙ pick-yes _ _ (c .before .before .before .before .before .before .if2 .taken)))
+returns-2 c = rw (c .no-word .ensures, c .before .with-shift .ensures, c .before .before .driven .ensures) (sym (pick-no _ _ (c .before .before .before .before .before .before .before .if1 .left) ∙ pick-yes _ _ (c .before .before .before .before .before .before .if2 .taken)))
 
-still-requires-2 : tie.Need-still-requires-2
-still-requires-2 c κs = search needs
+no-word-requires-2 : tie.Need-no-word-requires-2
+no-word-requires-2 c κs = search needs
 
 returns-3 : tie.Need-returns-3
 unfolding tiRises
-returns-3 c = rw (c .still2 .ensures) (sym (pick-no _ _ (c .before .before .if1 .left) ∙ pick-no _ _ (c .before .if2 .left)))
+returns-3 c = rw (c .no-word2 .ensures) (sym (pick-no _ _ (c .before .before .if1 .left) ∙ pick-no _ _ (c .before .if2 .left)))
 
 pub ti-rises-spec : {M : Type 1} → statement M
 ti-rises-spec =
@@ -60,7 +60,7 @@ ti-rises-spec =
     cast-driven-2
     driven-requires
     with-shift-requires
-    still-requires
+    no-word-requires
     returns-2
-    still-requires-2
+    no-word-requires-2
     returns-3)

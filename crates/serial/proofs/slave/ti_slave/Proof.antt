@@ -20,12 +20,12 @@ returns-2 : tie.Need-returns-2
 unfolding tiSlave
 returns-2 c = rw (c .before .before .if1 .left, c .before .if2 .taken) (c .ti-rises .ensures)
 
-still-requires : tie.Need-still-requires
-still-requires c κs = search needs
+no-word-requires : tie.Need-no-word-requires
+no-word-requires c κs = search needs
 
 returns-3 : tie.Need-returns-3
 unfolding tiSlave
-returns-3 c = rw (c .before .before .if1 .left, c .before .if2 .left, c .still .ensures)
+returns-3 c = rw (c .before .before .if1 .left, c .before .if2 .left, c .no-word .ensures)
 
 pub ti-slave-spec : {M : Type 1} → statement M
 ti-slave-spec =
@@ -36,5 +36,5 @@ ti-slave-spec =
     returns
     ti-rises-requires
     returns-2
-    still-requires
+    no-word-requires
     returns-3)

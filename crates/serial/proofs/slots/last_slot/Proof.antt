@@ -12,20 +12,20 @@ mul-end c = search needs
 enum-told : tie.Need-enum-told
 enum-told c = search needs
 
-add-result : tie.Need-add-result
-add-result c = search needs
+add-t6 : tie.Need-add-t6
+add-t6 c = search needs
 
 enum-told-2 : tie.Need-enum-told-2
 enum-told-2 c = search needs
 
-add-result-2 : tie.Need-add-result-2
-add-result-2 c = search needs
+add-t7 : tie.Need-add-t7
+add-t7 c = search needs
 
 enum-told-3 : tie.Need-enum-told-3
 enum-told-3 c = search needs
 
-add-result-3 : tie.Need-add-result-3
-add-result-3 c = search needs
+add-t8 : tie.Need-add-t8
+add-t8 c = search needs
 
 enum-told-4 : tie.Need-enum-told-4
 enum-told-4 c = search needs
@@ -53,11 +53,11 @@ last-slot-spec =
     cast-end
     mul-end
     enum-told
-    add-result
+    add-t6
     enum-told-2
-    add-result-2
+    add-t7
     enum-told-3
-    add-result-3
+    add-t8
     enum-told-4
     returns
     returns-2
