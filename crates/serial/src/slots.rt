@@ -41,50 +41,43 @@ fn motorola_event(phase: bool, b: u8, n: u16) -> Event
     ensures { λ r. ⌜ r ≡ motorolaEvent phase b n ⌝ }
 {
     let end = 2 * (b as u16);
-    let first = n == 0;
-    let inside = n <= end;
-    let odd = n % 2 == 1;
-    let last = n == end + 1;
-    let over = n == end + 2;
-    if first {
+    if n == 0 {
         return Event::Begin;
     }
-    if inside {
-        if odd {
+    if n <= end {
+        if n % 2 == 1 {
             return Event::Drive(n / 2);
         }
         return Event::Capture;
     }
-    if last {
+    if n == end + 1 {
         if phase {
             return Event::Chain(Slots(1));
         }
         return Event::Pause;
     }
-    if over { Event::Release } else { Event::Pause }
+    if n == end + 2 {
+        return Event::Release;
+    }
+    Event::Pause
 }
 
 fn ti_event(b: u8, n: u16) -> Event
     ensures { λ r. ⌜ r ≡ tiEvent b n ⌝ }
 {
-    let zero = n == 0;
-    let one = n == 1;
-    let two = n == 2;
-    let last = n == 2 * (b as u16);
-    let even = n % 2 == 0;
-    if zero {
+    if n == 0 {
         return Event::Begin;
     }
-    if one {
+    if n == 1 {
         return Event::JoinCapture;
     }
-    if two {
+    if n == 2 {
         return Event::First;
     }
-    if last {
+    if n == 2 * (b as u16) {
         return Event::JoinDrive(minus_one(b as u16));
     }
-    if even {
+    if n % 2 == 0 {
         return Event::Drive(minus_one(n / 2));
     }
     Event::Capture
@@ -100,36 +93,31 @@ fn microwire_event(b: u8, n: u16) -> Event
     ensures { λ r. ⌜ r ≡ microwireEvent b n ⌝ }
 {
     let end = 2 * (b as u16);
-    let first = n == 0;
-    let control = n < 16;
-    let even = n % 2 == 0;
-    let quiet = n == 16;
-    let inside = n < 18 + end;
-    let captures = (19 <= n) & (n % 2 == 1);
-    let last = n == 18 + end;
-    let over = n == 19 + end;
-    if first {
+    if n == 0 {
         return Event::BeginDrive;
     }
-    if control {
-        if even {
+    if n < 16 {
+        if n % 2 == 0 {
             return Event::Drive(n / 2);
         }
         return Event::Pause;
     }
-    if quiet {
+    if n == 16 {
         return Event::Quiet;
     }
-    if inside {
-        if captures {
+    if n < 18 + end {
+        if (19 <= n) & (n % 2 == 1) {
             return Event::Capture;
         }
         return Event::Pause;
     }
-    if last {
+    if n == 18 + end {
         return Event::Chain(Slots(0));
     }
-    if over { Event::Release } else { Event::Pause }
+    if n == 19 + end {
+        return Event::Release;
+    }
+    Event::Pause
 }
 
 // What happens in the first cycle of slot n.
