@@ -131,7 +131,7 @@ module _ (stop : Stop) (b i o : List ℕ) (n : ℕ) (e : n ≡ runRefusal b i o)
   unfolding runCount
   run-unserved f = record { refusal = e; count = rw (← e, f); left = rw (← e, f); output = rw (← e, f) }
 
--- A run without a stopping stop runs a cycle for each input byte.
+-- A run without a stopping rule runs a cycle for each input byte.
 module _ (b i o : List ℕ) where
   count-all : (n : ℕ) → runRefusal b i o ≡ n → eqb n 0 ≡ true → runCount Never b i o ≡ length i
   unfolding runCount

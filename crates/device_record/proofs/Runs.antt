@@ -60,7 +60,7 @@ module _ (stops : DeviceModel → Bool) where
   count-none s [] e = refl
   count-none s (p ∷ ps) e = rw (countUntil, e)
 
--- With no stopping stop every input byte has its cycle.
+-- With no stopping rule every input byte has its cycle.
 pub count-never : (d : DeviceModel) (ins : List ℕ) → countUntil (stopsOn Never) d ins ≡ length ins
 unfolding countUntil
 count-never d [] = refl
@@ -117,7 +117,7 @@ module _ (stops : DeviceModel → Bool) (d : DeviceModel) (ins outs now : List �
         let a = served-all ins outs (r .long) in
         record { count = rw a (sym e); device = rw (a, e) (same ∙ r .device); output = rw (a, e) (r .output) }
 
-    -- the stop holds
+    -- the rule holds
     pub run-held : stops s ≡ true → RunUntil stops d ins outs (record { count = i; device = x }) now
     run-held t = run-stop (r .count ∙ omega (arith, count-none stops s (drop i ins) t))
 

@@ -66,7 +66,7 @@ pub record WriteCall (bytes : List ℕ) (o v r : ℕ) (bytes′ : List ℕ) : Ty
 
 -- Runs -----------------------------------------------------------------------------------------------------------------
 
--- The cycles of a run by a stopping stop; 0 where it is refused.
+-- The cycles of a run by a stopping rule; 0 where it is refused.
 unfoldable pub runCount : Stop → List ℕ → List ℕ → List ℕ → ℕ
 runCount stop bytes ins outs = pick (eqb (runRefusal bytes ins outs) done) (countUntil (stopsOn stop) (decode bytes) ins) 0
 

@@ -1,4 +1,4 @@
--- Runs: one cycle for each input byte, up to a stopping stop.
+-- Runs: one cycle for each input byte, up to a stopping rule.
 use Prim.Native.Nat.{ℕ, _+_}
 use mathlib.Core.Path.{_≡_}
 use mathlib.Core.Bool.{Bool, true, false, not, _&&_}
@@ -33,7 +33,7 @@ abbrev pub stopsOn : Stop → DeviceModel → Bool
 stopsOn Never d = false
 stopsOn NotBusy d = not (busyDevice d)
 
--- The number of cycles: none where the stop holds at once, otherwise up to and with the first cycle that ends with the stop, or one for each input byte.
+-- The number of cycles: none where the rule holds at once, otherwise up to and with the first cycle that ends with the rule, or one for each input byte.
 unfoldable pub countUntil : (DeviceModel → Bool) → DeviceModel → List ℕ → ℕ
 countUntil stops d [] = 0
 countUntil stops d (p ∷ ps) = elim (stops d) [ true ↦ 0 | false ↦ 1 + countUntil stops (cycleOf d (pinsOf p)) ps ]
@@ -50,7 +50,7 @@ written d n ins outs = outputs d (take n ins) ++ drop n outs
 unfoldable pub served : List ℕ → List ℕ → List ℕ
 served ins outs = pick (eqb (length ins) (length outs)) ins []
 
--- What a run by a stopping stop leaves.
+-- What a run by a stopping rule leaves.
 pub record RunUntil (stops : DeviceModel → Bool) (d : DeviceModel) (ins outs : List ℕ) (r : Ran) (outs′ : List ℕ) : Type 0 where
   pub count : r .count ≡ countUntil stops d (served ins outs)
   pub device : deviceOf (r .device) ≡ afterBytes d (take (countUntil stops d (served ins outs)) ins)

@@ -138,7 +138,7 @@ pub fn write_call(bytes: &mut [u8], offset: u32, value: u32) -> u8
     refusal
 }
 
-// Runs cycles up to a stopping stop, and counts them.
+// Runs cycles up to a stopping rule, and counts them.
 pub fn run_call(stop: Stop, bytes: &mut [u8], input: &[u8], output: &mut [u8]) -> RunAnswer
     ensures { λ r. ⌜ RunCall stop (now (bytes .entry)) (now (input .entry)) (now (output .entry)) r (now (bytes .exit)) (now (output .exit)) ⌝ }
 {

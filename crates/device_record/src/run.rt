@@ -1,4 +1,4 @@
-// Runs: one cycle for each input byte, up to a stopping stop.
+// Runs: one cycle for each input byte, up to a stopping rule.
 ghost use mathlib.Core.Path.{_≡_};
 ghost use Rattle.serial.specs.Cycle.{deviceOf};
 ghost use Rattle.serial.specs.Busy.{busyDevice};
@@ -64,7 +64,7 @@ fn stops_on(stop: Stop, d: Device) -> bool
     }
 }
 
-// Cycles until the stop holds or the input ends; output bytes past them stay. Nothing is run where the lengths differ.
+// Cycles until the rule holds or the input ends; output bytes past them stay. Nothing is run where the lengths differ.
 pub fn run_until(stop: Stop, d: Device, input: &[u8], output: &mut [u8]) -> Ran
     ensures { λ r. ⌜ RunUntil (stopsOn stop) (deviceOf d) (now (input .entry)) (now (output .entry)) r (now (output .exit)) ⌝ }
 {

@@ -1,5 +1,5 @@
 // The calls for C: numbers, the 128 bytes of a record and line bytes. include/pl022.h describes them for a C programmer.
-// Each hands its arguments to the crate below and its answer back; no stop of the device stands here.
+// Each hands its arguments to the crate below and its answer back; no rule of the device stands here.
 ghost use Rattle.device_record.specs.Calls.{ResetCall, WriteCall, PairCall};
 ghost use Rattle.pl022.specs.Results.{ReadResult, RunResult, IdleResult};
 use device_record::run::Stop;

@@ -49,25 +49,25 @@ or-right false b h = h
 
 -- a test that counts only under another
 
-pub under-told : (a b : Bool) → (not a || b) ≡ true → a ≡ true → b ≡ true
-under-told true b h k = h
-under-told false b h k = absurd (false≢true k)
+pub under-elim : (a b : Bool) → (not a || b) ≡ true → a ≡ true → b ≡ true
+under-elim true b h k = h
+under-elim false b h k = absurd (false≢true k)
 
-pub under-tell : (a b : Bool) → (a ≡ true → b ≡ true) → (not a || b) ≡ true
-under-tell true b f = f refl
-under-tell false b f = refl
+pub under-intro : (a b : Bool) → (a ≡ true → b ≡ true) → (not a || b) ≡ true
+under-intro true b f = f refl
+under-intro false b f = refl
 
 pub under-off : (a b : Bool) → (not a || b) ≡ false → (a ≡ true) × (b ≡ false)
 under-off true b h = (refl, h)
 under-off false b h = absurd (true≢false h)
 
-pub not-told : (a : Bool) → not a ≡ true → a ≡ false
-not-told true h = sym h
-not-told false h = refl
+pub not-elim : (a : Bool) → not a ≡ true → a ≡ false
+not-elim true h = sym h
+not-elim false h = refl
 
-pub not-tell : (a : Bool) → a ≡ false → not a ≡ true
-not-tell true h = sym h
-not-tell false h = refl
+pub not-intro : (a : Bool) → a ≡ false → not a ≡ true
+not-intro true h = sym h
+not-intro false h = refl
 
 pub both-absurd : {A : Type 0} (t : Bool) → t ≡ true → t ≡ false → A
 both-absurd true h k = absurd (true≢false k)

@@ -10,7 +10,7 @@ use lib.Dec.{ltb, leb, eqb}
 use borrow.Author.Tests.{ltb-true, leb-true, eqb-true, leb-false, eqb-false, lt-ltb, le-leb, eq-eqb, ne-eqb}
 use Rattle.queue.specs.Fifo.{added, rest}
 use Rattle.registers.specs.Choose.{bitAt}
-use Rattle.registers.proofs.Picks.{pick-yes, pick-no, pick-both, and-left, and-right, and-both, or-right, under-told, under-tell, not-told, not-tell, both-absurd}
+use Rattle.registers.proofs.Picks.{pick-yes, pick-no, pick-both, and-left, and-right, and-both, or-right, under-elim, under-intro, not-elim, not-intro, both-absurd}
 use Rattle.registers.specs.Time.{cyclesOf}
 use Rattle.registers.specs.Model.{Model, resetRegisters}
 use Rattle.registers.specs.Offsets.{registerOf}
@@ -41,28 +41,28 @@ unfolding controlSound
 control-elim c h =
     let a = and-left ((eqb (c .cr0) 0 || permittedOf (c .cr0)) && eqb (c .cpsr % 2) 0) _ h in
     let b = and-right ((eqb (c .cr0) 0 || permittedOf (c .cr0)) && eqb (c .cpsr % 2) 0) _ h in
-    let u = under-told (enabledOf c) _ (and-right (leb (c .cr1) 15) _ b) in
+    let u = under-elim (enabledOf c) _ (and-right (leb (c .cr1) 15) _ b) in
     record {
       shape = and-left (eqb (c .cr0) 0 || permittedOf (c .cr0)) _ a;
       even = eqb-true _ _ (and-right (eqb (c .cr0) 0 || permittedOf (c .cr0)) _ a);
       cr1 = leb-true _ _ (and-left (leb (c .cr1) 15) _ b);
       permitted = λ k. and-left (permittedOf (c .cr0)) _ (u k);
-      divided = λ k. let z = eqb-false (c .cpsr) 0 (not-told _ (and-right (permittedOf (c .cr0)) _ (u k))) in omega arith;
+      divided = λ k. let z = eqb-false (c .cpsr) 0 (not-elim _ (and-right (permittedOf (c .cr0)) _ (u k))) in omega arith;
     }
 
-pub control-tell : (c : Control) → ControlFacts c → controlSound c ≡ true
+pub control-intro : (c : Control) → ControlFacts c → controlSound c ≡ true
 unfolding controlSound
-control-tell c t =
+control-intro c t =
     and-both _ _ (and-both _ _ (t .shape) (eq-eqb _ _ (t .even)))
     (and-both _ _ (le-leb _ _ (t .cr1))
-    (under-tell (enabledOf c) _ (λ k. and-both _ _ (t .permitted k) (not-tell _ (ne-eqb (c .cpsr) 0 (λ z. let o = t .divided k in omega arith))))))
+    (under-intro (enabledOf c) _ (λ k. and-both _ _ (t .permitted k) (not-intro _ (ne-eqb (c .cpsr) 0 (λ z. let o = t .divided k in omega arith))))))
 
 -- The timeout's count: below 64 slots with SSE set, 0 with SSE clear.
 pub record CountFacts (c : Control) (n : ℕ) : Type 0 where
   pub running : enabledOf c ≡ true → n < 64 * divisorOf c .0
   pub stopped : enabledOf c ≡ false → n ≡ 0
 
-pub record Told (m : Model) : Type 0 where
+pub record SoundFacts (m : Model) : Type 0 where
   pub control : ControlFacts (m .control)
   pub imsc : m .masks .imsc ≤ 15
   pub dmacr : m .masks .dmacr ≤ 3
@@ -70,7 +70,7 @@ pub record Told (m : Model) : Type 0 where
   pub rx : length (m .rx) ≤ 8
   pub count : CountFacts (m .control) (m .timeout .count .0)
 
-pub sound-elim : (m : Model) → soundRegisters m ≡ true → Told m
+pub sound-elim : (m : Model) → soundRegisters m ≡ true → SoundFacts m
 unfolding soundRegisters masksSound queuesSound countSound limitOf cyclesOf
 sound-elim m h =
     let a = and-left (controlSound (m .control) && masksSound (m .masks)) _ h in
@@ -90,10 +90,10 @@ sound-elim m h =
       };
     }
 
-pub sound-tell : (m : Model) → Told m → soundRegisters m ≡ true
+pub sound-intro : (m : Model) → SoundFacts m → soundRegisters m ≡ true
 unfolding soundRegisters masksSound queuesSound countSound limitOf cyclesOf
-sound-tell m t =
-    and-both _ _ (and-both _ _ (control-tell (m .control) (t .control)) (and-both _ _ (le-leb _ _ (t .imsc)) (le-leb _ _ (t .dmacr))))
+sound-intro m t =
+    and-both _ _ (and-both _ _ (control-intro (m .control) (t .control)) (and-both _ _ (le-leb _ _ (t .imsc)) (le-leb _ _ (t .dmacr))))
     (and-both _ _ (and-both _ _ (le-leb _ _ (t .tx)) (le-leb _ _ (t .rx)))
     (pick-both (λ (x : Bool). x ≡ true) (enabledOf (m .control)) _ _ (λ e. lt-ltb _ _ (t .count .running e)) (λ e. eq-eqb _ _ (t .count .stopped e))))
 
@@ -130,8 +130,8 @@ pub record EnabledFacts (c : Control) : Type 0 where
   pub most : bitsOf (c .cr0) ≤ 16
   pub format : formatOf (c .cr0) ≡ ReservedFormat → ⊥
 
-pub enabled-told : (c : Control) → controlSound c ≡ true → enabledOf c ≡ true → EnabledFacts c
-enabled-told c h e =
+pub enabled-elim : (c : Control) → controlSound c ≡ true → enabledOf c ≡ true → EnabledFacts c
+enabled-elim c h e =
     let t = control-elim c h in
     record {
       divisor = divisor-positive c t e;
@@ -160,22 +160,22 @@ pub sound-reset : soundRegisters resetRegisters ≡ true
 unfolding soundRegisters controlSound masksSound queuesSound countSound enabledOf permittedOf
 sound-reset = refl
 
-pub sound-sent : (m : Model) → soundRegisters m ≡ true → soundRegisters (takeWord m) ≡ true
+pub sound-take : (m : Model) → soundRegisters m ≡ true → soundRegisters (takeWord m) ≡ true
 unfolding takeWord
-sound-sent m h =
+sound-take m h =
     let t = sound-elim m h in
-    sound-tell _ (record { control = t .control; imsc = t .imsc; dmacr = t .dmacr; tx = rest-most (m .tx) (t .tx); rx = t .rx; count = t .count })
+    sound-intro _ (record { control = t .control; imsc = t .imsc; dmacr = t .dmacr; tx = rest-most (m .tx) (t .tx); rx = t .rx; count = t .count })
 
-pub sound-received : (m : Model) (w : ℕ) → soundRegisters m ≡ true → soundRegisters (receiveWord m w) ≡ true
+pub sound-receive : (m : Model) (w : ℕ) → soundRegisters m ≡ true → soundRegisters (receiveWord m w) ≡ true
 unfolding receiveWord
-sound-received m w h =
+sound-receive m w h =
     let t = sound-elim m h in
-    sound-tell _ (record { control = t .control; imsc = t .imsc; dmacr = t .dmacr; tx = t .tx; rx = added-most (m .rx) w (t .rx); count = t .count })
+    sound-intro _ (record { control = t .control; imsc = t .imsc; dmacr = t .dmacr; tx = t .tx; rx = added-most (m .rx) w (t .rx); count = t .count })
 
 -- the count at the end of a cycle
-count-ended : (m : Model) (frame : Bool) → Told m → CountFacts (m .control) (timeoutOf m frame .count .0)
+count-end : (m : Model) (frame : Bool) → SoundFacts m → CountFacts (m .control) (timeoutOf m frame .count .0)
 unfolding timeoutOf limitOf cyclesOf idlesOf
-count-ended m frame t =
+count-end m frame t =
     pick-both (λ (x : Timeout). CountFacts (m .control) (x .count .0)) (idlesOf m frame) _ _
     (λ i. pick-both (λ (x : Timeout). CountFacts (m .control) (x .count .0)) (leb (64 * divisorOf (m .control) .0) (m .timeout .count .0 + 1)) _ _
     (λ _. count-zero (m .control) (t .control))
@@ -185,11 +185,11 @@ count-ended m frame t =
     }))
     (λ _. count-zero (m .control) (t .control))
 
-pub sound-ended : (m : Model) (frame : Bool) → soundRegisters m ≡ true → soundRegisters (endCycle m frame) ≡ true
+pub sound-end : (m : Model) (frame : Bool) → soundRegisters m ≡ true → soundRegisters (endCycle m frame) ≡ true
 unfolding endCycle
-sound-ended m frame h =
+sound-end m frame h =
     let t = sound-elim m h in
-    sound-tell _ (record { control = t .control; imsc = t .imsc; dmacr = t .dmacr; tx = t .tx; rx = t .rx; count = count-ended m frame t })
+    sound-intro _ (record { control = t .control; imsc = t .imsc; dmacr = t .dmacr; tx = t .tx; rx = t .rx; count = count-end m frame t })
 
 -- Reading ------------------------------------------------------------------------------------------------------------
 
@@ -197,7 +197,7 @@ sound-taken : (m : Model) → soundRegisters m ≡ true → soundRegisters (data
 unfolding dataTaken
 sound-taken m h =
     let t = sound-elim m h in
-    sound-tell _ (record { control = t .control; imsc = t .imsc; dmacr = t .dmacr; tx = t .tx; rx = rest-most (m .rx) (t .rx); count = count-zero (m .control) (t .control) })
+    sound-intro _ (record { control = t .control; imsc = t .imsc; dmacr = t .dmacr; tx = t .tx; rx = rest-most (m .rx) (t .rx); count = count-zero (m .control) (t .control) })
 
 sound-place : (m : Model) (p : Register) → soundRegisters m ≡ true → soundRegisters (readDone m p) ≡ true
 sound-place m Cr0 h = h
@@ -226,7 +226,7 @@ sound-cr0 m v h r =
     let t = sound-elim m h in
     let d = cr0-done m v r in
     let p : permittedOf (v % 0x10000) ≡ true = rw (mod-eq-of-lt (d .small)) (d .permitted) in
-    sound-tell _ (record {
+    sound-intro _ (record {
       control = record {
         shape = or-right (eqb (v % 0x10000) 0) _ p;
         even = t .control .even;
@@ -263,7 +263,7 @@ sound-cr1 m v h r =
       permitted = λ e. d .permitted (sym same ∙ e);
       divided = λ e. d .divided (sym same ∙ e);
     } in
-    sound-tell _ (record {
+    sound-intro _ (record {
       control = u;
       imsc = t .imsc;
       dmacr = t .dmacr;
@@ -279,7 +279,7 @@ unfolding cpsrWritten enabledOf
 sound-cpsr m v h r =
     let t = sound-elim m h in
     let d = cpsr-done m v r in
-    sound-tell _ (record {
+    sound-intro _ (record {
       control = record {
         shape = t .control .shape;
         even = omega arith;
@@ -298,7 +298,7 @@ sound-icr : (m : Model) (v : ℕ) → soundRegisters m ≡ true → soundRegiste
 unfolding icrWritten
 sound-icr m v h =
     let t = sound-elim m h in
-    sound-tell _ (record {
+    sound-intro _ (record {
       control = t .control;
       imsc = t .imsc;
       dmacr = t .dmacr;
@@ -311,19 +311,19 @@ sound-dr : (m : Model) (v : ℕ) → soundRegisters m ≡ true → soundRegister
 unfolding drWritten
 sound-dr m v h =
     let t = sound-elim m h in
-    sound-tell _ (record { control = t .control; imsc = t .imsc; dmacr = t .dmacr; tx = added-most (m .tx) (v % 0x10000) (t .tx); rx = t .rx; count = t .count })
+    sound-intro _ (record { control = t .control; imsc = t .imsc; dmacr = t .dmacr; tx = added-most (m .tx) (v % 0x10000) (t .tx); rx = t .rx; count = t .count })
 
 sound-imsc : (m : Model) (v : ℕ) → soundRegisters m ≡ true → soundRegisters (imscWritten m v) ≡ true
 unfolding imscWritten
 sound-imsc m v h =
     let t = sound-elim m h in
-    sound-tell _ (record { control = t .control; imsc = omega arith; dmacr = t .dmacr; tx = t .tx; rx = t .rx; count = t .count })
+    sound-intro _ (record { control = t .control; imsc = omega arith; dmacr = t .dmacr; tx = t .tx; rx = t .rx; count = t .count })
 
 sound-dmacr : (m : Model) (v : ℕ) → soundRegisters m ≡ true → soundRegisters (dmacrWritten m v) ≡ true
 unfolding dmacrWritten
 sound-dmacr m v h =
     let t = sound-elim m h in
-    sound-tell _ (record { control = t .control; imsc = t .imsc; dmacr = omega arith; tx = t .tx; rx = t .rx; count = t .count })
+    sound-intro _ (record { control = t .control; imsc = t .imsc; dmacr = omega arith; tx = t .tx; rx = t .rx; count = t .count })
 
 sound-written : (m : Model) (p : Register) (v : ℕ) → soundRegisters m ≡ true → writeRefusal m p v ≡ 0 → soundRegisters (writeDone m p v) ≡ true
 sound-written m Cr0 v h r = sound-cr0 m v h r
@@ -369,9 +369,9 @@ fits-elim m h =
       rx = and-right (wordsFit (m .tx)) _ b;
     }
 
-pub fits-tell : (m : Model) → FitFacts m → registersFit m ≡ true
+pub fits-intro : (m : Model) → FitFacts m → registersFit m ≡ true
 unfolding registersFit
-fits-tell m t =
+fits-intro m t =
     and-both _ _ (and-both _ _ (and-both _ _ (lt-ltb _ _ (t .cr0)) (lt-ltb _ _ (t .cpsr))) (lt-ltb _ _ (t .count)))
     (and-both _ _ (t .tx) (t .rx))
 
@@ -402,23 +402,23 @@ pub fits-reset : registersFit resetRegisters ≡ true
 unfolding registersFit wordsFit
 fits-reset = refl
 
-pub fits-sent : (m : Model) → registersFit m ≡ true → registersFit (takeWord m) ≡ true
+pub fits-take : (m : Model) → registersFit m ≡ true → registersFit (takeWord m) ≡ true
 unfolding takeWord
-fits-sent m h =
+fits-take m h =
     let t = fits-elim m h in
-    fits-tell _ (record { cr0 = t .cr0; cpsr = t .cpsr; count = t .count; tx = rest-fits (m .tx) (t .tx); rx = t .rx })
+    fits-intro _ (record { cr0 = t .cr0; cpsr = t .cpsr; count = t .count; tx = rest-fits (m .tx) (t .tx); rx = t .rx })
 
-pub fits-received : (m : Model) (w : ℕ) → w < 0x10000 → registersFit m ≡ true → registersFit (receiveWord m w) ≡ true
+pub fits-receive : (m : Model) (w : ℕ) → w < 0x10000 → registersFit m ≡ true → registersFit (receiveWord m w) ≡ true
 unfolding receiveWord
-fits-received m w p h =
+fits-receive m w p h =
     let t = fits-elim m h in
-    fits-tell _ (record { cr0 = t .cr0; cpsr = t .cpsr; count = t .count; tx = t .tx; rx = added-fits (m .rx) w p (t .rx) })
+    fits-intro _ (record { cr0 = t .cr0; cpsr = t .cpsr; count = t .count; tx = t .tx; rx = added-fits (m .rx) w p (t .rx) })
 
-pub fits-ended : (m : Model) (frame : Bool) → registersFit m ≡ true → registersFit (endCycle m frame) ≡ true
+pub fits-end : (m : Model) (frame : Bool) → registersFit m ≡ true → registersFit (endCycle m frame) ≡ true
 unfolding endCycle timeoutOf limitOf cyclesOf
-fits-ended m frame h =
+fits-end m frame h =
     let t = fits-elim m h in
-    fits-tell _ (record {
+    fits-intro _ (record {
       cr0 = t .cr0;
       cpsr = t .cpsr;
       count = pick-both (λ (x : Timeout). x .count .0 < 0x100000000) (idlesOf m frame) _ _
@@ -436,7 +436,7 @@ fits-place m Cr0 h = h
 fits-place m Cr1 h = h
 fits-place m Dr h =
     let t = fits-elim m h in
-    fits-tell _ (record { cr0 = t .cr0; cpsr = t .cpsr; count = omega arith; tx = t .tx; rx = rest-fits (m .rx) (t .rx) })
+    fits-intro _ (record { cr0 = t .cr0; cpsr = t .cpsr; count = omega arith; tx = t .tx; rx = rest-fits (m .rx) (t .rx) })
 fits-place m Sr h = h
 fits-place m Cpsr h = h
 fits-place m Imsc h = h
@@ -460,28 +460,28 @@ fits-written : (m : Model) (p : Register) (v : ℕ) → registersFit m ≡ true 
 unfolding cr0Written cr1Written cpsrWritten icrWritten drWritten imscWritten dmacrWritten
 fits-written m Cr0 v h =
     let t = fits-elim m h in
-    fits-tell _ (record { cr0 = omega arith; cpsr = t .cpsr; count = t .count; tx = t .tx; rx = t .rx })
+    fits-intro _ (record { cr0 = omega arith; cpsr = t .cpsr; count = t .count; tx = t .tx; rx = t .rx })
 fits-written m Cr1 v h =
     let t = fits-elim m h in
-    fits-tell _ (record { cr0 = t .cr0; cpsr = t .cpsr; count = fits-kept (bitAt v 1) (m .timeout .count) (t .count); tx = t .tx; rx = t .rx })
+    fits-intro _ (record { cr0 = t .cr0; cpsr = t .cpsr; count = fits-kept (bitAt v 1) (m .timeout .count) (t .count); tx = t .tx; rx = t .rx })
 fits-written m Dr v h =
     let t = fits-elim m h in
-    fits-tell _ (record { cr0 = t .cr0; cpsr = t .cpsr; count = t .count; tx = added-fits (m .tx) (v % 0x10000) (omega arith) (t .tx); rx = t .rx })
+    fits-intro _ (record { cr0 = t .cr0; cpsr = t .cpsr; count = t .count; tx = added-fits (m .tx) (v % 0x10000) (omega arith) (t .tx); rx = t .rx })
 fits-written m Sr v h = h
 fits-written m Cpsr v h =
     let t = fits-elim m h in
-    fits-tell _ (record { cr0 = t .cr0; cpsr = omega arith; count = t .count; tx = t .tx; rx = t .rx })
+    fits-intro _ (record { cr0 = t .cr0; cpsr = omega arith; count = t .count; tx = t .tx; rx = t .rx })
 fits-written m Imsc v h =
     let t = fits-elim m h in
-    fits-tell _ (record { cr0 = t .cr0; cpsr = t .cpsr; count = t .count; tx = t .tx; rx = t .rx })
+    fits-intro _ (record { cr0 = t .cr0; cpsr = t .cpsr; count = t .count; tx = t .tx; rx = t .rx })
 fits-written m Ris v h = h
 fits-written m Mis v h = h
 fits-written m Icr v h =
     let t = fits-elim m h in
-    fits-tell _ (record { cr0 = t .cr0; cpsr = t .cpsr; count = fits-kept (not (bitAt v 1)) (m .timeout .count) (t .count); tx = t .tx; rx = t .rx })
+    fits-intro _ (record { cr0 = t .cr0; cpsr = t .cpsr; count = fits-kept (not (bitAt v 1)) (m .timeout .count) (t .count); tx = t .tx; rx = t .rx })
 fits-written m Dmacr v h =
     let t = fits-elim m h in
-    fits-tell _ (record { cr0 = t .cr0; cpsr = t .cpsr; count = t .count; tx = t .tx; rx = t .rx })
+    fits-intro _ (record { cr0 = t .cr0; cpsr = t .cpsr; count = t .count; tx = t .tx; rx = t .rx })
 fits-written m (Identity i) v h = h
 fits-written m Reserved v h = h
 fits-written m Outside v h = h

@@ -24,7 +24,7 @@ use Rattle.serial.specs.Bits.{shiftedIn}
 use Rattle.serial.specs.Engine.{clearShift, cleared, withShift, loaded, started, driven, quieted, capturedOf, completes, noWord, captureStep}
 use Rattle.serial.specs.Slots.{motorolaEvent, tiEvent, microwireEvent, eventOn, eventOf, lastOn, lastSlot, widthOf}
 use Rattle.serial.specs.Master.{joinedShift, act, resting, acting, dataBit, masterStep, ticked, masterEnd}
-use Rattle.serial.specs.Slave.{selectedOf, motorolaSelect, captureEdge, driveEdge, motorolaClock, motorolaEdges, motorolaSlave, withMark, tiFalls, tiRises, tiSlave, slaveOn, slaveStep, endedOn, slaveEnd}
+use Rattle.serial.specs.Slave.{slaveTake, selectedOf, motorolaSelect, captureEdge, driveEdge, motorolaClock, motorolaEdges, motorolaSlave, withMark, tiFalls, tiRises, tiSlave, slaveOn, slaveStep, endedOn, slaveEnd}
 use Rattle.serial.specs.Cycle.{DeviceModel, resetDevice, stepOf, endOf, deviceStep, cycleOf}
 use Rattle.serial.proofs.Cycles.{step-keeps, control-cycle, step-stopped, cycle-stopped}
 use Rattle.serial.specs.Access.{readDevice, engineAfter, writeDevice}
@@ -208,13 +208,20 @@ module _ (F : Type 0) (s : Settings) where
 
   -- The slave ------------------------------------------------------------------------------------------------------
 
+  -- the one way to take a word
+  step-take : (e : Engine) (may : Bool) (next : ℕ) → EngineFacts F s e → (F → next < 0x10000) → StepFacts F s (slaveTake s e may next)
+  step-take e may next t n =
+      record {
+        engine = record { slot = t .slot; elapsed = t .elapsed; shift = shift-started F (s .bits) (s .bits) (pick may next 0) (λ f. pick-both (λ (x : ℕ). x < 0x10000) may _ _ (λ _. n f) (λ _. omega arith)) };
+        word = omega arith;
+      }
+
   step-select : (e : Engine) (fell : Bool) (next : ℕ) → EngineFacts F s e → (F → next < 0x10000) → StepFacts F s (motorolaSelect s e fell next)
   unfolding motorolaSelect
   step-select e fell next t n =
+      let c : EngineFacts F s (selectedOf e) = record { slot = t .slot; elapsed = t .elapsed; shift = shift-cleared F (s .bits) } in
       step-pick fell _ _
-      (step-pick (s .phase) _ _
-      (step-still (selectedOf e) (record { slot = t .slot; elapsed = t .elapsed; shift = shift-cleared F (s .bits) }))
-      (record { engine = record { slot = t .slot; elapsed = t .elapsed; shift = shift-started F (s .bits) (s .bits) next n }; word = omega arith }))
+      (step-pick (s .phase) _ _ (step-still (selectedOf e) c) (step-take (selectedOf e) (s .enabled) next c n))
       (step-still e t)
 
   step-clock : (e : Engine) (captures drives : Bool) (next : ℕ) (bit : Bool) → EngineFacts F s e → (F → next < 0x10000) → StepFacts F s (motorolaClock s e captures drives next bit)
@@ -222,9 +229,7 @@ module _ (F : Type 0) (s : Settings) where
   step-clock e captures drives next bit t n =
       step-pick (e .frame && captures) _ _ (step-capture bit e t)
       (step-pick (e .frame && drives) _ _ (step-drive (e .shift .captured) (s .bits) e t)
-      (step-pick (drives && s .phase) _ _
-      (record { engine = record { slot = t .slot; elapsed = t .elapsed; shift = shift-started F (s .bits) (s .bits) next n }; word = omega arith })
-      (step-still e t)))
+      (step-pick (drives && s .phase) _ _ (step-take e (s .enabled) next t n) (step-still e t)))
 
   step-edges : (r : Step) (before seen : Pins) (next : ℕ) → StepFacts F s r → (F → next < 0x10000) → StepFacts F s (motorolaEdges s r before seen next)
   unfolding motorolaEdges
@@ -252,7 +257,7 @@ module _ (F : Type 0) (s : Settings) where
   unfolding tiRises
   step-rises e next t n =
       step-pick (e .mark) _ _
-      (record { engine = record { slot = t .slot; elapsed = t .elapsed; shift = shift-started F (s .bits) (s .bits) next n }; word = omega arith })
+      (step-take (withMark e false) (s .enabled) next (record { slot = t .slot; elapsed = t .elapsed; shift = t .shift }) n)
       (step-pick (e .frame) _ _ (step-drive (e .shift .captured) (s .bits) e t) (step-still e t))
 
   step-ti : (e : Engine) (before seen : Pins) (next : ℕ) → EngineFacts F s e → (F → next < 0x10000) → StepFacts F s (tiSlave s e before seen next)
@@ -283,9 +288,9 @@ module _ (F : Type 0) (s : Settings) where
 
 -- The tests as facts -------------------------------------------------------------------------------------------------
 
-running-tell : (F : Type 0) (s : Settings) (e : Engine) → EngineFacts F s e → runningSound s e ≡ true
+running-intro : (F : Type 0) (s : Settings) (e : Engine) → EngineFacts F s e → runningSound s e ≡ true
 unfolding runningSound
-running-tell F s e t = and-both _ _ (and-both _ _ (le-leb _ _ (t .slot)) (lt-ltb _ _ (t .elapsed))) (le-leb _ _ (t .shift .captured))
+running-intro F s e t = and-both _ _ (and-both _ _ (le-leb _ _ (t .slot)) (lt-ltb _ _ (t .elapsed))) (le-leb _ _ (t .shift .captured))
 
 record StoppedFacts (e : Engine) : Type 0 where
   slot : e .slot .0 ≡ 0
@@ -380,7 +385,7 @@ unfolding engineSound settingsOf
 stopped-sound c e t h =
     let z = stopped-elim e h in
     pick-both (λ (x : Bool). x ≡ true) (enabledOf c) _ _
-    (λ k. running-tell ⊥ (settingsOf c) e (record {
+    (λ k. running-intro ⊥ (settingsOf c) e (record {
       slot = let p = z .slot in omega arith;
       elapsed = let p = z .elapsed in let q = divisor-positive c t k in omega arith;
       shift = record { captured = let p = z .captured in omega arith; sending = λ f. absurd f; receiving = λ f. absurd f };
@@ -451,14 +456,14 @@ fits-write d o v h =
 registers-cycle : (d : DeviceModel) (pins : Pins) → soundRegisters (d .registers) ≡ true → soundRegisters (cycleOf d pins .registers) ≡ true
 unfolding cycleOf
 registers-cycle d pins h =
-    file.sound-ended _ _
-    (step-keeps (λ (x : Model). soundRegisters x ≡ true) (d .registers) (deviceStep d pins) file.sound-sent (λ x k. file.sound-received x (deviceStep d pins .word) k) h)
+    file.sound-end _ _
+    (step-keeps (λ (x : Model). soundRegisters x ≡ true) (d .registers) (deviceStep d pins) file.sound-take (λ x k. file.sound-receive x (deviceStep d pins .word) k) h)
 
 fits-registers-cycle : (d : DeviceModel) (pins : Pins) → deviceStep d pins .word < 0x10000 → registersFit (d .registers) ≡ true → registersFit (cycleOf d pins .registers) ≡ true
 unfolding cycleOf
 fits-registers-cycle d pins w h =
-    file.fits-ended _ _
-    (step-keeps (λ (x : Model). registersFit x ≡ true) (d .registers) (deviceStep d pins) file.fits-sent (λ x k. file.fits-received x (deviceStep d pins .word) w k) h)
+    file.fits-end _ _
+    (step-keeps (λ (x : Model). registersFit x ≡ true) (d .registers) (deviceStep d pins) file.fits-take (λ x k. file.fits-receive x (deviceStep d pins .word) w k) h)
 
 step-enabled : (d : DeviceModel) (pins : Pins) → soundDevice d ≡ true → enabledOf (d .registers .control) ≡ true → StepFacts (deviceFits d ≡ true) (settingsOf (d .registers .control)) (deviceStep d pins)
 unfolding deviceStep stepOf
@@ -487,7 +492,7 @@ sound-cycle d pins h =
     (ap (λ (c : Control). engineSound (settingsOf c) (cycleOf d pins .engine)) (control-cycle d pins) ∙ go (enabledOf (d .registers .control)) refl)
   where
     go : (x : Bool) → enabledOf (d .registers .control) ≡ x → engineSound (settingsOf (d .registers .control)) (cycleOf d pins .engine) ≡ true
-    go true k = running-sound (d .registers .control) _ k (running-tell _ _ _ (cycle-enabled d pins h k))
+    go true k = running-sound (d .registers .control) _ k (running-intro _ _ _ (cycle-enabled d pins h k))
     go false k =
         ap (λ (e : Engine). engineSound (settingsOf (d .registers .control)) e) (cycle-stopped d pins k)
         ∙ cleared-sound (d .registers .control) (file.sound-elim (d .registers) (sound-registers d h) .control)

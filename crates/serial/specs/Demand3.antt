@@ -1,4 +1,4 @@
--- Demand 3 as a statement: what is compared, from which starts, over which lists of steps. No proof stands here: `demand3` of Pair/Claim.antt proves the first part, `enabling-injective` of Alone/Enabled.antt the last sentence; Demand3/Records.antt carries both to records and output bytes.
+-- Demand 3 as a statement: what is compared, from which starts, over which lists of steps. No proof stands here: `demand3` of proofs/Exchange/Claim.antt proves the first part, `enabling-injective` of proofs/Drawing/Enabled.antt the last sentence; the record's crate carries both to records and output bytes.
 use Prim.Native.Nat.{ℕ, zero, suc, _+_, _*_, _≤_, _<_}
 use mathlib.Core.Path.{_≡_}
 use mathlib.Core.Bool.{Bool, true, false}

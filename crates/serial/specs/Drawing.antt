@@ -60,7 +60,7 @@ abbrev pub frames1 : Settings → List ℕ → List Lines
 frames1 s [] = []
 frames1 s (w ∷ ws) = low s false false ∷ chain1 s w ws
 
--- TI's slots 0 and 1 of a first word, and of a word joined to the one before, whose last bit is noWord on TXD.
+-- TI's slots 0 and 1 of a first word, and of a word joined to the one before, whose last bit is still on TXD.
 abbrev pub marked : Bool → Lines
 marked clk = record { clk = clk; fss = true; txd = false; released = true }
 

@@ -15,7 +15,7 @@ use Rattle.serial.specs.declared.engine.Step.{Step}
 use Rattle.serial.specs.declared.slots.Event.{Event}
 use Rattle.serial.specs.declared.slots.Event.the-variants.{Begin, BeginDrive, Drive, First, Capture, Chain, JoinDrive, JoinCapture, Quiet, Release, Pause}
 
--- TI's joined word: the old word's last bit goes on TXD and stays, its last capture is noWord to come, the new word is taken.
+-- TI's joined word: the old word's last bit goes on TXD and stays, its last capture is still to come, the new word is taken.
 unfoldable pub joinedShift : ℕ → ℕ → ℕ → Shift → Shift
 joinedShift width i next x =
     record { captured = x .captured; level = bitOf width (x .sending) i; sending = next; receiving = x .receiving }

@@ -6,12 +6,20 @@ use Rattle.registers.specs.Choose.{pick}
 use Rattle.registers.specs.declared.settings.Format.{Format}
 use Rattle.registers.specs.declared.settings.Format.the-variants.{Motorola, Ti, Microwire, Reserved}
 use Rattle.registers.specs.declared.settings.Settings.{Settings}
-use Rattle.serial.specs.Engine.{clearShift, cleared, withShift, withFrame, started, driven, noWord, begun, captureStep}
+use Rattle.serial.specs.Engine.{clearShift, cleared, withShift, withFrame, started, driven, noWord, captureStep}
 use Rattle.serial.specs.Lines.{differ}
 use Rattle.serial.specs.Master.{dataBit}
 use Rattle.serial.specs.declared.engine.Engine.{Engine}
 use Rattle.serial.specs.declared.engine.Step.{Step}
 use Rattle.serial.specs.declared.lines.Pins.{Pins}
+
+-- The one way in which a slave takes a word: its frame begins with the word's first bit on TXD. It may take one while SSE is 1; where it may not, or no word waits, it sends zeros.
+abbrev pub slaveTake : Settings → Engine → Bool → ℕ → Step
+slaveTake s e may next = record { engine = withFrame e true (started (s .bits) (pick may next 0)); takes = may; complete = false; word = 0 }
+
+-- With c bits captured it drives bit c.
+abbrev pub slaveDrive : Settings → Engine → Step
+slaveDrive s e = noWord (withShift e (driven (s .bits) (e .shift .captured) (e .shift)))
 
 -- Motorola -------------------------------------------------------------------------------------------------------------
 
@@ -22,7 +30,7 @@ selectedOf e = record { slot = e .slot; elapsed = e .elapsed; frame = false; sel
 -- A FSS fall selects; with SPH 0 the next word to send, zeros if there is none, is taken then and its first bit driven.
 unfoldable pub motorolaSelect : Settings → Engine → Bool → ℕ → Step
 motorolaSelect s e fell next =
-    pick fell (pick (s .phase) (noWord (selectedOf e)) (begun (selectedOf e) (started (s .bits) next))) (noWord e)
+    pick fell (pick (s .phase) (noWord (selectedOf e)) (slaveTake s (selectedOf e) (s .enabled) next)) (noWord e)
 
 -- The clock edge to the active level, and the one back.
 abbrev pub toActive : Settings → Pins → Pins → Bool
@@ -42,8 +50,8 @@ driveEdge s before seen = pick (s .phase) (toActive s before seen) (toIdle s bef
 unfoldable pub motorolaClock : Settings → Engine → Bool → Bool → ℕ → Bool → Step
 motorolaClock s e captures drives next bit =
     pick (e .frame && captures) (captureStep (s .bits) bit e)
-    (pick (e .frame && drives) (noWord (withShift e (driven (s .bits) (e .shift .captured) (e .shift))))
-    (pick (drives && s .phase) (begun e (started (s .bits) next))
+    (pick (e .frame && drives) (slaveDrive s e)
+    (pick (drives && s .phase) (slaveTake s e (s .enabled) next)
     (noWord e)))
 
 -- Two steps of one cycle, of which the first completes no word.
@@ -80,8 +88,8 @@ tiFalls s e fss bit =
 -- A rising edge after a mark takes the next word and drives its first bit; in a word it drives bit c.
 unfoldable pub tiRises : Settings → Engine → ℕ → Step
 tiRises s e next =
-    pick (e .mark) (begun (withMark e false) (started (s .bits) next))
-    (pick (e .frame) (noWord (withShift e (driven (s .bits) (e .shift .captured) (e .shift))))
+    pick (e .mark) (slaveTake s (withMark e false) (s .enabled) next)
+    (pick (e .frame) (slaveDrive s e)
     (noWord e))
 
 unfoldable pub tiSlave : Settings → Engine → Pins → Pins → ℕ → Step

@@ -82,7 +82,7 @@ motorolaLevels phase b n =
       released = false;
     }
 
--- TI: CLK is HIGH at even slots; FSS is HIGH in 0 and 1, and so is nSSPOE unless the old word's last bit is noWord on TXD there.
+-- TI: CLK is HIGH at even slots; FSS is HIGH in 0 and 1, and so is nSSPOE unless the old word's last bit is still on TXD there.
 unfoldable pub tiLevels : Bool → ℕ → Levels
 tiLevels joined n = record { clk = eqb (n % 2) 0; fss = ltb n 2; released = ltb n 2 && not joined }
 

@@ -1,11 +1,31 @@
 // What a slave does in a cycle: it sees each pin as it stood two cycles earlier, and an edge against the cycle before.
 ghost use mathlib.Core.Path.{_≡_};
-ghost use Rattle.serial.specs.Slave.{selectedOf, motorolaSelect, toActive, toIdle, captureEdge, driveEdge, motorolaClock, afterTaking, motorolaEdges, motorolaSlave, withMark, tiFalls, tiRises, tiSlave, slaveStep, endedOn, slaveEnd};
+ghost use Rattle.serial.specs.Slave.{slaveTake, slaveDrive, selectedOf, motorolaSelect, captureEdge, driveEdge, motorolaClock, afterTaking, motorolaEdges, motorolaSlave, withMark, tiFalls, tiRises, tiSlave, slaveStep, endedOn, slaveEnd};
 use crate::engine::Engine;
 use crate::engine::Step;
 use crate::lines::Pins;
 use registers::settings::Format;
 use registers::settings::Settings;
+
+// The one way to take a word. Where the slave may not take one it sends zeros.
+fn slave_take(s: Settings, e: Engine, may: bool, next: u16) -> Step
+    ensures { λ r. ⌜ r ≡ slaveTake s e may next ⌝ }
+{
+    if may {
+        return crate::engine::begun(e, crate::engine::started(s.bits as u16, next));
+    }
+    let zeros = crate::engine::started(s.bits as u16, 0);
+    crate::engine::no_word(crate::engine::with_frame(e, true, zeros))
+}
+
+// With c bits captured it drives bit c.
+fn slave_drive(s: Settings, e: Engine) -> Step
+    ensures { λ r. ⌜ r ≡ slaveDrive s e ⌝ }
+{
+    let shift = e.shift;
+    let after = crate::engine::driven(s.bits as u16, shift.captured as u16, shift);
+    crate::engine::no_word(crate::engine::with_shift(e, after))
+}
 
 fn selected_of(e: Engine) -> Engine
     ensures { λ r. ⌜ r ≡ selectedOf e ⌝ }
@@ -28,47 +48,27 @@ fn motorola_select(s: Settings, e: Engine, fell: bool, next: u16) -> Step
         if phase {
             return crate::engine::no_word(chosen);
         }
-        return crate::engine::begun(chosen, crate::engine::started(s.bits as u16, next));
+        return slave_take(s, chosen, s.enabled, next);
     }
     crate::engine::no_word(e)
-}
-
-fn to_active(s: Settings, before: Pins, seen: Pins) -> bool
-    ensures { λ r. ⌜ r ≡ toActive s before seen ⌝ }
-{
-    let was = crate::lines::differ(before.clk, s.polarity);
-    let is = crate::lines::differ(seen.clk, s.polarity);
-    !was & is
-}
-
-fn to_idle(s: Settings, before: Pins, seen: Pins) -> bool
-    ensures { λ r. ⌜ r ≡ toIdle s before seen ⌝ }
-{
-    let was = crate::lines::differ(before.clk, s.polarity);
-    let is = crate::lines::differ(seen.clk, s.polarity);
-    was & !is
 }
 
 fn capture_edge(s: Settings, before: Pins, seen: Pins) -> bool
     ensures { λ r. ⌜ r ≡ captureEdge s before seen ⌝ }
 {
     let phase = s.phase;
-    if phase {
-        to_idle(s, before, seen)
-    } else {
-        to_active(s, before, seen)
-    }
+    let was = crate::lines::differ(before.clk, s.polarity);
+    let is = crate::lines::differ(seen.clk, s.polarity);
+    if phase { was & !is } else { !was & is }
 }
 
 fn drive_edge(s: Settings, before: Pins, seen: Pins) -> bool
     ensures { λ r. ⌜ r ≡ driveEdge s before seen ⌝ }
 {
     let phase = s.phase;
-    if phase {
-        to_active(s, before, seen)
-    } else {
-        to_idle(s, before, seen)
-    }
+    let was = crate::lines::differ(before.clk, s.polarity);
+    let is = crate::lines::differ(seen.clk, s.polarity);
+    if phase { !was & is } else { was & !is }
 }
 
 // In a word: capture or drive. Out of one: with SPH 1 the next word is taken at an edge to active.
@@ -89,12 +89,10 @@ fn motorola_clock(
         return crate::engine::capture_step(s.bits, bit, e);
     }
     if driving {
-        let shift = e.shift;
-        let after = crate::engine::driven(s.bits as u16, shift.captured as u16, shift);
-        return crate::engine::no_word(crate::engine::with_shift(e, after));
+        return slave_drive(s, e);
     }
     if taking {
-        return crate::engine::begun(e, crate::engine::started(s.bits as u16, next));
+        return slave_take(s, e, s.enabled, next);
     }
     crate::engine::no_word(e)
 }
@@ -171,13 +169,10 @@ fn ti_rises(s: Settings, e: Engine, next: u16) -> Step
     let mark = e.mark;
     let frame = e.frame;
     if mark {
-        let started = crate::engine::started(s.bits as u16, next);
-        return crate::engine::begun(with_mark(e, false), started);
+        return slave_take(s, with_mark(e, false), s.enabled, next);
     }
     if frame {
-        let shift = e.shift;
-        let after = crate::engine::driven(s.bits as u16, shift.captured as u16, shift);
-        return crate::engine::no_word(crate::engine::with_shift(e, after));
+        return slave_drive(s, e);
     }
     crate::engine::no_word(e)
 }

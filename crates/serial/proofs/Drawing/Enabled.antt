@@ -6,10 +6,10 @@ use mathlib.Core.List.{List, map}
 use lib.Dec.{eqb}
 use lib.ListN.{length}
 use borrow.Author.Tests.{eqb-true}
-use Rattle.registers.proofs.Picks.{pick-no, and-left, and-right, not-told}
+use Rattle.registers.proofs.Picks.{pick-no, and-left, and-right, not-elim}
 use Rattle.registers.specs.Settings.{enabledOf, settingsOf}
 use Rattle.registers.specs.Access.{writeModel}
-use Rattle.registers.proofs.Soundness.{enabled-told, control-tell, sound-elim}
+use Rattle.registers.proofs.Soundness.{enabled-elim, control-intro, sound-elim}
 use Rattle.registers.specs.declared.settings.Settings.{Settings}
 use Rattle.serial.specs.Bits.{cut}
 use Rattle.serial.specs.Slots.{widthOf}
@@ -37,7 +37,7 @@ stopped-elim e h =
     let flags = and-left ((not (e .frame) && not (e .selected)) && not (e .mark)) _ h in
     let counts = and-left (eqb (e .slot .0) 0 && eqb (e .elapsed .0) 0) _ (and-right ((not (e .frame) && not (e .selected)) && not (e .mark)) _ h) in
     record {
-      frame = not-told (e .frame) (and-left (not (e .frame)) _ (and-left (not (e .frame) && not (e .selected)) _ flags));
+      frame = not-elim (e .frame) (and-left (not (e .frame)) _ (and-left (not (e .frame) && not (e .selected)) _ flags));
       slot = eqb-true (e .slot .0) 0 (and-left (eqb (e .slot .0) 0) _ counts);
       elapsed = eqb-true (e .elapsed .0) 0 (and-right (eqb (e .slot .0) 0) _ counts);
     }
@@ -52,7 +52,7 @@ pub fresh-sound : (d : DeviceModel) → soundDevice d ≡ true → enabledOf (d 
 unfolding settingsOf
 fresh-sound d h e m z =
     let c = d .registers .control in
-    let t = enabled-told c (control-tell c (sound-elim (d .registers) (sound-registers d h) .control)) e in
+    let t = enabled-elim c (control-intro c (sound-elim (d .registers) (sound-registers d h) .control)) e in
     record {
       set = refl;
       enabled = e;

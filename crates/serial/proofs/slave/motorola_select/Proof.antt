@@ -13,18 +13,12 @@ returns : tie.Need-returns
 unfolding motorolaSelect
 returns c = rw (c .before .before .before .if1 .taken, c .before .if2 .taken, c .no-word .ensures, c .before .before .selected-of .ensures)
 
-cast-started : tie.Need-cast-started
-cast-started c = search needs
-
-started-requires : tie.Need-started-requires
-started-requires c κs = search needs
-
-begun-requires : tie.Need-begun-requires
-begun-requires c κs = search needs
+slave-take-requires : tie.Need-slave-take-requires
+slave-take-requires c κs = search needs
 
 returns-2 : tie.Need-returns-2
 unfolding motorolaSelect
-returns-2 c = rw (c .before .before .before .before .before .if1 .taken, c .before .before .before .if2 .left, c .begun .ensures, c .before .before .before .before .selected-of .ensures, c .before .started .ensures)
+returns-2 c = rw (c .before .before .before .if1 .taken, c .before .if2 .left, c .slave-take .ensures, c .before .before .selected-of .ensures)
 
 no-word-requires-2 : tie.Need-no-word-requires-2
 no-word-requires-2 c κs = search needs
@@ -40,9 +34,7 @@ motorola-select-spec =
     selected-of-requires
     no-word-requires
     returns
-    cast-started
-    started-requires
-    begun-requires
+    slave-take-requires
     returns-2
     no-word-requires-2
     returns-3)
