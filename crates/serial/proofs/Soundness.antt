@@ -1,8 +1,9 @@
 -- Reset is sound, and every access and every cycle keeps a device sound and within the bytes of a record.
-use Prim.Native.Nat.{ℕ, _+_, _*_, _%_, _≤_, _<_}
+use Prim.Native.Nat.{ℕ, _+_, _*_, _%_, _^_, _≤_, _<_}
 use mathlib.Core.Path.{_≡_, refl, sym, ap, _∙_}
 use mathlib.Core.Bool.{Bool, true, false, not, _&&_, _||_}
 use native.Mathlib.Omega.{arith}
+use native.Mathlib.Nat.{mod-le}
 use lib.Dec.{ltb, leb, eqb}
 use borrow.Author.Tests.{ltb-true, leb-true, eqb-true, lt-ltb, le-leb, not-false}
 use Rattle.registers.specs.Time.{slots}
@@ -146,7 +147,7 @@ module _ (F : Type 0) (s : Settings) where
   unfolding captureStep shiftedIn
   step-capture bit e t = record {
     engine = record { slot = t .slot; elapsed = t .elapsed; shift = shift-captured F (s .bits) bit (e .shift) (t .shift) };
-    word = pick-both (λ (n : ℕ). n < 0x10000) (completes (s .bits) (e .shift)) _ _ (λ _. omega arith) (λ _. omega arith);
+    word = pick-both (λ (n : ℕ). n < 0x10000) (completes (s .bits) (e .shift)) _ _ (λ _. let l = mod-le (shiftedIn (e .shift .receiving) bit) (2 ^ s .bits) in omega arith) (λ _. omega arith);
   }
 
   step-drive : (i width : ℕ) (e : Engine) → EngineFacts F s e → StepFacts F s (noWord (withShift e (driven width i (e .shift))))

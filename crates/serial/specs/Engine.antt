@@ -5,7 +5,7 @@ use lib.Dec.{ltb, eqb}
 use Rattle.registers.specs.Choose.{pick}
 use Rattle.registers.specs.Time.{cycles, slots}
 use Rattle.registers.specs.declared.time.Slots.{Slots}
-use Rattle.serial.specs.Bits.{bitOf, shiftedIn}
+use Rattle.serial.specs.Bits.{bitOf, cut, shiftedIn}
 use Rattle.serial.specs.declared.engine.Shift.{Shift}
 use Rattle.serial.specs.declared.engine.Engine.{Engine}
 use Rattle.serial.specs.declared.engine.Step.{Step}
@@ -45,16 +45,16 @@ driven width i x = record { captured = x .captured; level = bitOf width (x .send
 abbrev pub quieted : Shift → Shift
 quieted x = record { captured = x .captured; level = false; sending = x .sending; receiving = x .receiving }
 
--- A bit is captured; one past the last of b is not.
+-- A bit is captured; one past the last of a word's width is not.
 unfoldable pub capturedOf : ℕ → Bool → Shift → Shift
-capturedOf b bit x =
-    pick (ltb (x .captured) b)
+capturedOf width bit x =
+    pick (ltb (x .captured) width)
     (record { captured = x .captured + 1; level = x .level; sending = x .sending; receiving = shiftedIn (x .receiving) bit })
     x
 
 -- That capture completes a word.
 unfoldable pub completes : ℕ → Shift → Bool
-completes b x = eqb (x .captured + 1) b
+completes width x = eqb (x .captured + 1) width
 
 -- What a step leaves: the engine, whether it took the next word to send, and the word that it completed, if any.
 
@@ -65,11 +65,12 @@ noWord e = record { engine = e; takes = false; complete = false; word = 0 }
 abbrev pub begun : Engine → Shift → Step
 begun e x = record { engine = withFrame e true x; takes = true; complete = false; word = 0 }
 
+-- A capture. The word that it completes is cut to its width.
 unfoldable pub captureStep : ℕ → Bool → Engine → Step
-captureStep b bit e =
+captureStep width bit e =
     record {
-      engine = withShift e (capturedOf b bit (e .shift));
+      engine = withShift e (capturedOf width bit (e .shift));
       takes = false;
-      complete = completes b (e .shift);
-      word = pick (completes b (e .shift)) (shiftedIn (e .shift .receiving) bit) 0;
+      complete = completes width (e .shift);
+      word = pick (completes width (e .shift)) (cut width (shiftedIn (e .shift .receiving) bit)) 0;
     }

@@ -8,7 +8,7 @@ use Rattle.registers.specs.declared.time.Slots.{Slots}
 use Rattle.registers.specs.declared.settings.Settings.{Settings}
 use Rattle.serial.specs.Bits.{bitOf}
 use Rattle.serial.specs.Engine.{clearShift, cleared, withShift, withFrame, withSlot, loaded, started, driven, quieted, noWord, begun, captureStep}
-use Rattle.serial.specs.Slots.{eventOf, lastSlot, widthOf}
+use Rattle.serial.specs.Slots.{eventOf, lastSlot, widthOf, captureWidth}
 use Rattle.serial.specs.declared.engine.Shift.{Shift}
 use Rattle.serial.specs.declared.engine.Engine.{Engine}
 use Rattle.serial.specs.declared.engine.Step.{Step}
@@ -34,7 +34,7 @@ joinStep s e waiting next i = pick waiting (begun (withSlot e (slots 0)) (joined
 
 -- The last capture of the word before, if there was one: then a bit is captured already.
 abbrev pub joinCapture : Settings → Engine → Bool → Step
-joinCapture s e bit = pick (eqb (e .shift .captured) 0) (noWord e) (captureStep (s .bits) bit e)
+joinCapture s e bit = pick (eqb (e .shift .captured) 0) (noWord e) (captureStep (captureWidth s) bit e)
 
 -- What an event does. `waiting`: a word waits to be sent, the oldest is `next`. `bit`: the data level that a capture takes.
 abbrev pub act : Settings → Engine → Bool → ℕ → Bool → Event → Step
@@ -42,7 +42,7 @@ act s e waiting next bit Begin = begun e (loaded next)
 act s e waiting next bit BeginDrive = begun e (started (widthOf s) next)
 act s e waiting next bit (Drive i) = driveStep s e i
 act s e waiting next bit First = noWord (withShift e (started (widthOf s) (e .shift .sending)))
-act s e waiting next bit Capture = captureStep (s .bits) bit e
+act s e waiting next bit Capture = captureStep (captureWidth s) bit e
 act s e waiting next bit (Chain n) = chainStep s e waiting next n
 act s e waiting next bit (JoinDrive i) = joinStep s e waiting next i
 act s e waiting next bit JoinCapture = joinCapture s e bit

@@ -7,6 +7,7 @@ use Rattle.registers.specs.declared.settings.Format.{Format}
 use Rattle.registers.specs.declared.settings.Format.the-variants.{Motorola, Ti, Microwire, Reserved}
 use Rattle.registers.specs.declared.settings.Settings.{Settings}
 use Rattle.serial.specs.Engine.{clearShift, cleared, withShift, withFrame, started, driven, noWord, captureStep}
+use Rattle.serial.specs.Slots.{captureWidth}
 use Rattle.serial.specs.Lines.{differ}
 use Rattle.serial.specs.Master.{dataBit}
 use Rattle.serial.specs.declared.engine.Engine.{Engine}
@@ -49,7 +50,7 @@ driveEdge s before seen = pick (s .phase) (toActive s before seen) (toIdle s bef
 -- In a word: RXD captured at capture edges, bit c driven at the others. Out of a word: with SPH 1 the next word is taken at an edge to active.
 unfoldable pub motorolaClock : Settings → Engine → Bool → Bool → ℕ → Bool → Step
 motorolaClock s e captures drives next bit =
-    pick (e .frame && captures) (captureStep (s .bits) bit e)
+    pick (e .frame && captures) (captureStep (captureWidth s) bit e)
     (pick (e .frame && drives) (slaveDrive s e)
     (pick (drives && s .phase) (slaveTake s e (s .enabled) next)
     (noWord e)))
@@ -80,9 +81,9 @@ withMark e m = record { slot = e .slot; elapsed = e .elapsed; frame = e .frame; 
 unfoldable pub tiFalls : Settings → Engine → Bool → Bool → Step
 tiFalls s e fss bit =
     pick (e .frame)
-    (pick (fss && ltb (e .shift .captured + 1) (s .bits))
+    (pick (fss && ltb (e .shift .captured + 1) (captureWidth s))
     (noWord (withMark (withFrame e false clearShift) true))
-    (captureStep (s .bits) bit (withMark e (e .mark || fss))))
+    (captureStep (captureWidth s) bit (withMark e (e .mark || fss))))
     (noWord (withMark e (e .mark || fss)))
 
 -- A rising edge after a mark takes the next word and drives its first bit; in a word it drives bit c.
@@ -120,4 +121,4 @@ endedOn Reserved e = withFrame e false clearShift
 
 -- The end of a slave's cycle.
 unfoldable pub slaveEnd : Settings → Engine → Engine
-slaveEnd s e = pick (e .frame && leb (s .bits) (e .shift .captured)) (endedOn (s .format) e) e
+slaveEnd s e = pick (e .frame && leb (captureWidth s) (e .shift .captured)) (endedOn (s .format) e) e

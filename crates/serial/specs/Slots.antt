@@ -73,6 +73,10 @@ widthOn Reserved b = b
 unfoldable pub widthOf : Settings → ℕ
 widthOf s = widthOn (s .format) (s .bits)
 
+-- Received words have b bits.
+abbrev pub captureWidth : Settings → ℕ
+captureWidth s = s .bits
+
 -- Motorola: the clock is active at 2 + 2i with SPH 0, at 1 + 2i with SPH 1; FSS and nSSPOE are LOW.
 unfoldable pub motorolaLevels : Bool → ℕ → ℕ → Levels
 motorolaLevels phase b n =

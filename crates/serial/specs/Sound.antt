@@ -6,7 +6,7 @@ use Rattle.registers.specs.Choose.{pick}
 use Rattle.registers.specs.Settings.{settingsOf}
 use Rattle.registers.specs.Sound.{soundRegisters, registersFit}
 use Rattle.registers.specs.declared.settings.Settings.{Settings}
-use Rattle.serial.specs.Slots.{lastSlot}
+use Rattle.serial.specs.Slots.{lastSlot, captureWidth}
 use Rattle.serial.specs.Cycle.{DeviceModel}
 use Rattle.serial.specs.declared.engine.Engine.{Engine}
 
@@ -16,9 +16,9 @@ stoppedSound e =
     ((not (e .frame) && not (e .selected)) && not (e .mark))
     && ((eqb (e .slot .0) 0 && eqb (e .elapsed .0) 0) && eqb (e .shift .captured) 0)
 
--- With SSE set: slot number at most the format's last, cycles gone in the slot below h, captured bits at most b.
+-- With SSE set: slot number at most the format's last, cycles gone in the slot below h, captured bits at most the width of a received word, b.
 unfoldable pub runningSound : Settings → Engine → Bool
-runningSound s e = (leb (e .slot .0) (lastSlot s .0) && ltb (e .elapsed .0) (s .divisor .0)) && leb (e .shift .captured) (s .bits)
+runningSound s e = (leb (e .slot .0) (lastSlot s .0) && ltb (e .elapsed .0) (s .divisor .0)) && leb (e .shift .captured) (captureWidth s)
 
 unfoldable pub engineSound : Settings → Engine → Bool
 engineSound s e = pick (s .enabled) (runningSound s e) (stoppedSound e)

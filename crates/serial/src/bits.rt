@@ -1,7 +1,7 @@
 // Bits on the wire: most significant first.
 ghost use mathlib.Core.Path.{_≡_};
 ghost use Prim.Native.Nat.{_-_};
-ghost use Rattle.serial.specs.Bits.{bitOf, shiftedIn};
+ghost use Rattle.serial.specs.Bits.{bitOf, cut, shiftedIn};
 
 // The place of bit i of a word of `width` bits, from the low end.
 fn place_of(width: u16, i: u16) -> u16
@@ -19,6 +19,17 @@ pub fn bit_of(width: u16, word: u16, i: u16) -> bool
         return (word >> place) % 2 == 1;
     }
     false
+}
+
+// The low bits of a word.
+pub fn cut(width: u8, word: u16) -> u16
+    ensures { λ r. ⌜ r ≡ cut width word ⌝ }
+{
+    if width < 16 {
+        let size = 1u32 << (width as u32);
+        return ((word as u32) % size) as u16;
+    }
+    word
 }
 
 // A word with one more bit at its low end.

@@ -132,11 +132,11 @@ pub fn quieted(shift: Shift) -> Shift
 }
 
 // A bit is captured; one past the last is not.
-pub fn captured_of(bits: u8, bit: bool, shift: Shift) -> Shift
-    ensures { λ r. ⌜ r ≡ capturedOf bits bit shift ⌝ }
+pub fn captured_of(width: u8, bit: bool, shift: Shift) -> Shift
+    ensures { λ r. ⌜ r ≡ capturedOf width bit shift ⌝ }
 {
     let c = shift.captured;
-    if c < bits {
+    if c < width {
         let receiving = crate::bits::shifted_in(shift.receiving, bit);
         return Shift {
             captured: c + 1,
@@ -149,10 +149,10 @@ pub fn captured_of(bits: u8, bit: bool, shift: Shift) -> Shift
 }
 
 // Whether the next capture completes a word.
-pub fn completes(bits: u8, shift: Shift) -> bool
-    ensures { λ r. ⌜ r ≡ completes bits shift ⌝ }
+pub fn completes(width: u8, shift: Shift) -> bool
+    ensures { λ r. ⌜ r ≡ completes width shift ⌝ }
 {
-    shift.captured as u16 + 1 == bits as u16
+    shift.captured as u16 + 1 == width as u16
 }
 
 // A step that changes nothing else.
@@ -181,13 +181,13 @@ pub fn begun(e: Engine, shift: Shift) -> Step
 }
 
 // A capture, with the word that it completes.
-pub fn capture_step(bits: u8, bit: bool, e: Engine) -> Step
-    ensures { λ r. ⌜ r ≡ captureStep bits bit e ⌝ }
+pub fn capture_step(width: u8, bit: bool, e: Engine) -> Step
+    ensures { λ r. ⌜ r ≡ captureStep width bit e ⌝ }
 {
     let shift = e.shift;
-    let done = completes(bits, shift);
-    let word = crate::bits::shifted_in(shift.receiving, bit);
-    let after = captured_of(bits, bit, shift);
+    let done = completes(width, shift);
+    let word = crate::bits::cut(width, crate::bits::shifted_in(shift.receiving, bit));
+    let after = captured_of(width, bit, shift);
     let next = with_shift(e, after);
     if done {
         return Step {

@@ -61,7 +61,7 @@ fn join_capture(s: Settings, e: Engine, bit: bool) -> Step
     if alone {
         return crate::engine::no_word(e);
     }
-    crate::engine::capture_step(s.bits, bit, e)
+    crate::engine::capture_step(crate::slots::capture_width(s), bit, e)
 }
 
 // What an event does. `waiting`: a word waits to be sent, the oldest is `next`. `bit`: the level that a capture takes.
@@ -80,7 +80,7 @@ pub fn act(s: Settings, e: Engine, waiting: bool, next: u16, bit: bool, event: E
             e,
             crate::engine::started(crate::slots::width_of(s), shift.sending),
         )),
-        Event::Capture => crate::engine::capture_step(s.bits, bit, e),
+        Event::Capture => crate::engine::capture_step(crate::slots::capture_width(s), bit, e),
         Event::Chain(n) => chain_step(s, e, waiting, next, n),
         Event::JoinDrive(i) => join_step(s, e, waiting, next, i),
         Event::JoinCapture => join_capture(s, e, bit),

@@ -86,7 +86,7 @@ fn motorola_clock(
     let driving = e.frame & drives;
     let taking = drives & s.phase;
     if capturing {
-        return crate::engine::capture_step(s.bits, bit, e);
+        return crate::engine::capture_step(crate::slots::capture_width(s), bit, e);
     }
     if driving {
         return slave_drive(s, e);
@@ -150,14 +150,15 @@ fn ti_falls(s: Settings, e: Engine, fss: bool, bit: bool) -> Step
     ensures { λ r. ⌜ r ≡ tiFalls s e fss bit ⌝ }
 {
     let frame = e.frame;
-    let early = fss & ((e.shift.captured as u16 + 1) < (s.bits as u16));
+    let width = crate::slots::capture_width(s);
+    let early = fss & ((e.shift.captured as u16 + 1) < (width as u16));
     let marked = with_mark(e, e.mark | fss);
     if frame {
         if early {
             let dropped = crate::engine::with_frame(e, false, crate::engine::clear_shift());
             return crate::engine::no_word(with_mark(dropped, true));
         }
-        return crate::engine::capture_step(s.bits, bit, marked);
+        return crate::engine::capture_step(width, bit, marked);
     }
     crate::engine::no_word(marked)
 }
@@ -220,7 +221,7 @@ fn ended_on(f: Format, e: Engine) -> Engine
 pub fn slave_end(s: Settings, e: Engine) -> Engine
     ensures { λ r. ⌜ r ≡ slaveEnd s e ⌝ }
 {
-    let over = e.frame & (s.bits <= e.shift.captured);
+    let over = e.frame & (crate::slots::capture_width(s) <= e.shift.captured);
     if over {
         let f = s.format;
         return ended_on(f, e);

@@ -1,7 +1,7 @@
 // The slot tables: what a master does in a slot's first cycle, and the levels that it shows in that slot.
 ghost use mathlib.Core.Path.{_≡_};
 ghost use Prim.Native.Nat.{_-_};
-ghost use Rattle.serial.specs.Slots.{motorolaEvent, tiEvent, microwireEvent, eventOf, lastSlot, widthOf, motorolaLevels, tiLevels, microwireLevels, levelsOf};
+ghost use Rattle.serial.specs.Slots.{motorolaEvent, tiEvent, microwireEvent, eventOf, lastSlot, widthOf, captureWidth, motorolaLevels, tiLevels, microwireLevels, levelsOf};
 use registers::settings::Format;
 use registers::settings::Settings;
 use registers::time::Slots;
@@ -159,6 +159,13 @@ pub fn width_of(s: Settings) -> u16
         Format::Microwire => 8,
         Format::Reserved => s.bits as u16,
     }
+}
+
+// How many bits a received word has.
+pub fn capture_width(s: Settings) -> u8
+    ensures { λ r. ⌜ r ≡ captureWidth s ⌝ }
+{
+    s.bits
 }
 
 fn motorola_levels(phase: bool, b: u8, n: u16) -> Levels

@@ -19,7 +19,8 @@ fn running_sound(s: Settings, e: Engine) -> bool
     ensures { λ r. ⌜ r ≡ runningSound s e ⌝ }
 {
     let last = crate::slots::last_slot(s).0;
-    ((e.slot.0 <= last) & (e.elapsed.0 < s.divisor.0 as u32)) & (e.shift.captured <= s.bits)
+    ((e.slot.0 <= last) & (e.elapsed.0 < s.divisor.0 as u32))
+        & (e.shift.captured <= crate::slots::capture_width(s))
 }
 
 fn engine_sound(s: Settings, e: Engine) -> bool

@@ -177,12 +177,12 @@ module _ (phase : Bool) (b h w v : ℕ) (k : Queues) (m : b ≤ 16) where
       slot-of (sm phase b h) (ss phase b h) (drivenAt phase b h w v k c n) (full c n) (z .m) (z .s) (z .s)
       (acted-by (sm phase b h) n (shifted c (bitOf b w c) w (top b v c)) (k .mtx) (k .mrx) _ _ (bitOf b v c && true) Capture
       (completed (sending n (shifted c (bitOf b w c) w (top b v c))) (cut b v)) (motorola-capture phase b n c e (omega arith))
-      (capture-last b (bitOf b v c && true) (sending n (shifted c (bitOf b w c) w (top b v c))) (cut b v) l (last-bit b v c l m))
+      (capture-last b (bitOf b v c && true) (sending n (shifted c (bitOf b w c) w (top b v c))) v l (last-bit b v c l m))
       (lines-at phase b h n x (not phase) (levels-capture phase b n c e (omega arith))))
       (onward-in (sm phase b h) n x (k .mtx) (push (cut b v) (k .mrx)) _ (omega arith))
       (slave-by (ss phase b h) _ _ (drivenAt phase b h w v k c n .s) (completed (chosen true (shifted c (bitOf b v c) v (top b w c))) (cut b w)) (chosen false x′) (shown (bitOf b v c))
       (slave-captures phase b h (shifted c (bitOf b v c) v (top b w c)) (bitOf b w c) (bitOf b w c) _
-      ∙ capture-last b (bitOf b w c && true) (chosen true (shifted c (bitOf b v c) v (top b w c))) (cut b w) l (last-bit b w c l m))
+      ∙ capture-last b (bitOf b w c && true) (chosen true (shifted c (bitOf b v c) v (top b w c))) w l (last-bit b w c l m))
       (rw (le-leb b (c + 1) (omega arith))) refl)
       (calm phase b h (k .stx) (push (cut b w) (k .srx)) false x′ (not phase) (bitOf b w c) (bitOf b w c) (ended phase b h x′)) refl
 

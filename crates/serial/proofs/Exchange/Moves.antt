@@ -4,13 +4,15 @@ use mathlib.Core.Path.{_≡_, refl, sym, ap, ap₂, _∙_, subst}
 use mathlib.Core.Bool.{Bool, true, false, not, _&&_}
 use mathlib.Core.List.{List}
 use native.Mathlib.Omega.{arith}
+use native.Mathlib.Nat.{mod-eq-of-lt, mod-lt}
+use lib.Pow.{pow-pos}
 use lib.Dec.{ltb, leb, eqb}
 use lib.ListN.{length, getD}
 use borrow.Author.Tests.{eq-eqb, ne-eqb, lt-ltb, le-ltb, le-leb, lt-leb}
 use Rattle.registers.specs.Choose.{pick}
 use Rattle.registers.specs.Time.{cycles, slots}
 use Rattle.registers.specs.declared.settings.Settings.{Settings}
-use Rattle.serial.specs.Bits.{shiftedIn}
+use Rattle.serial.specs.Bits.{cut, shiftedIn}
 use Rattle.serial.specs.Engine.{withShift, noWord, capturedOf, completes, captureStep}
 use Rattle.serial.specs.Slots.{eventOf, lastSlot}
 use Rattle.serial.specs.Lines.{masterLines, slaveLines}
@@ -91,9 +93,9 @@ capture-in b d e l = rw (lt-ltb (e .shift .captured) b (omega arith), ne-eqb (e 
 abbrev pub completed : Engine → ℕ → Step
 completed e w = record { engine = withShift e (shifted (e .shift .captured + 1) (e .shift .level) (e .shift .sending) w); takes = false; complete = true; word = w }
 
-pub capture-last : (b : ℕ) (d : Bool) (e : Engine) (w : ℕ) → e .shift .captured + 1 ≡ b → shiftedIn (e .shift .receiving) d ≡ w → captureStep b d e ≡ completed e w
+pub capture-last : (b : ℕ) (d : Bool) (e : Engine) (w : ℕ) → e .shift .captured + 1 ≡ b → shiftedIn (e .shift .receiving) d ≡ cut b w → captureStep b d e ≡ completed e (cut b w)
 unfolding captureStep capturedOf completes
-capture-last b d e w l q = rw (lt-ltb (e .shift .captured) b (omega arith), eq-eqb (e .shift .captured + 1) b l, q)
+capture-last b d e w l q = rw (lt-ltb (e .shift .captured) b (omega arith), eq-eqb (e .shift .captured + 1) b l, q, mod-eq-of-lt (mod-lt w (pow-pos b)))
 
 -- the slave: what a step leaves, and the quiet cycle after it
 pub slave-by : (s : Settings) (p q : Pins) (x : Side) (r : Step) (e : Engine) (l : Lines)

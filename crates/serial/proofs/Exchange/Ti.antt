@@ -290,10 +290,10 @@ module _ (phase : Bool) (b h : ℕ) where
       let x = shifted (c + 1) (bitOf b w c) w (cut b v) in
       slot-of sm ss (drivenAt w v w k c n false) (record { tx = []; rx = push (cut b v) q; engine = sending n x; lines = bitLines false false (bitOf b w c) })
       (doneAt (received b w v k) (bitOf b w c) .m) (record { tx = vs; rx = push (cut b w) r; engine = cleared; lines = shown (bitOf b v c) }) (doneAt (received b w v k) (bitOf b w c) .s)
-      (acted-by sm n x0 [] q _ _ (bitOf b v c && true) Capture (completed (sending n x0) (cut b v)) (ti-capture b n c e) (capture-last b (bitOf b v c && true) (sending n x0) (cut b v) l (last-bit b v c l m)) (lines-at n x false (ti-levels-odd _ n c e)))
+      (acted-by sm n x0 [] q _ _ (bitOf b v c && true) Capture (completed (sending n x0) (cut b v)) (ti-capture b n c e) (capture-last b (bitOf b v c && true) (sending n x0) v l (last-bit b v c l m)) (lines-at n x false (ti-levels-odd _ n c e)))
       (rw (le-ltb n (2 * b + 1) (omega arith)))
       (slave-by ss _ _ (drivenAt w v w k c n false .s) (completed (sending 0 y0) (cut b w)) cleared (shown (bitOf b v c))
-      (slave-captures y0 false (bitOf b w c) (bitOf b w c) _ ∙ capture-last b (bitOf b w c && true) (sending 0 y0) (cut b w) l (last-bit b w c l m))
+      (slave-captures y0 false (bitOf b w c) (bitOf b w c) _ ∙ capture-last b (bitOf b w c && true) (sending 0 y0) w l (last-bit b w c l m))
       (rw (le-leb b (c + 1) (omega arith))) refl)
       (calm vs (push (cut b w) r) cleared (shown (bitOf b v c)) hidden false false (bitOf b w c) false refl refl) refl
 
@@ -310,11 +310,11 @@ module _ (phase : Bool) (b h : ℕ) where
       slot-of sm ss (drivenAt w v u k c 1 true) (record { tx = k .mtx; rx = push (cut b v) (k .mrx); engine = sending 1 x; lines = bitLines false true (bitOf b w c) })
       (t .m) (record { tx = k .stx; rx = push (cut b w) (k .srx); engine = marking; lines = shown (bitOf b v c) }) (t .s)
       (acted-by sm 1 x0 (k .mtx) (k .mrx) _ _ (bitOf b v c && true) JoinCapture (completed (sending 1 x0) (cut b v)) refl
-      (ap (λ (u : Bool). pick u (noWord (sending 1 x0)) (captureStep b (bitOf b v c && true) (sending 1 x0))) (ne-eqb c 0 (omega arith)) ∙ capture-last b (bitOf b v c && true) (sending 1 x0) (cut b v) l (last-bit b v c l m))
+      (ap (λ (u : Bool). pick u (noWord (sending 1 x0)) (captureStep b (bitOf b v c && true) (sending 1 x0))) (ne-eqb c 0 (omega arith)) ∙ capture-last b (bitOf b v c && true) (sending 1 x0) v l (last-bit b v c l m))
       (lines-joined 1 x false (ne-eqb (c + 1) 0 (omega arith)) refl))
       (onward-in sm 1 x (k .mtx) (push (cut b v) (k .mrx)) _ (omega arith))
       (slave-by ss _ _ (drivenAt w v u k c 1 true .s) (completed (withMark (sending 0 y0) true) (cut b w)) marking (shown (bitOf b v c))
-      (slave-joins y0 (bitOf b w c) (bitOf b w c) _ l ∙ capture-last b (bitOf b w c && true) (withMark (sending 0 y0) true) (cut b w) l (last-bit b w c l m))
+      (slave-joins y0 (bitOf b w c) (bitOf b w c) _ l ∙ capture-last b (bitOf b w c && true) (withMark (sending 0 y0) true) w l (last-bit b w c l m))
       (rw (le-leb b (c + 1) (omega arith))) refl)
       (calm (k .stx) (push (cut b w) (k .srx)) marking (shown (bitOf b v c)) hidden false true (bitOf b w c) false refl refl) refl
 

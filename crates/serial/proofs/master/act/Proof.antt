@@ -47,6 +47,9 @@ no-word-requires c κs = search needs
 enum-told-4 : tie.Need-enum-told-4
 enum-told-4 c = search needs
 
+capture-width-requires : tie.Need-capture-width-requires
+capture-width-requires c κs = search needs
+
 capture-step-requires : tie.Need-capture-step-requires
 capture-step-requires c κs = search needs
 
@@ -111,7 +114,7 @@ returns-4 : tie.Need-returns-4
 returns-4 c = rw (c .before .before .before .before .enum-told3 .given .1, c .no-word .ensures, c .before .with-shift .ensures, c .before .before .started2 .ensures, c .before .before .before .width-of2 .ensures)
 
 returns-5 : tie.Need-returns-5
-returns-5 c = rw (c .before .enum-told4 .given .1) (c .capture-step .ensures)
+returns-5 c = rw (c .before .before .enum-told4 .given .1, ← c .before .capture-width .ensures) (c .capture-step .ensures)
 
 returns-6 : tie.Need-returns-6
 returns-6 c = rw (c .before .before .event2 .given .1) (c .chain-step .ensures)
@@ -150,6 +153,7 @@ act-spec =
     with-shift-requires
     no-word-requires
     enum-told-4
+    capture-width-requires
     capture-step-requires
     enum-known-event-2
     chain-step-requires

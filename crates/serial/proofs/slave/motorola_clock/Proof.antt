@@ -3,12 +3,15 @@ use borrow.Author.Needs.{needs}
 use Rattle.serial.proofs.slave.motorola_clock.Statement.{statement}
 use Rattle.serial.proofs.slave.motorola_clock.Tie as tie
 
+capture-width-requires : tie.Need-capture-width-requires
+capture-width-requires c κs = search needs
+
 capture-step-requires : tie.Need-capture-step-requires
 capture-step-requires c κs = search needs
 
 returns : tie.Need-returns
 unfolding motorolaClock
-returns c = rw (c .before .if1 .taken, c .capture-step .ensures)
+returns c = rw (c .before .before .if1 .taken, c .capture-step .ensures, c .before .capture-width .ensures)
 
 slave-drive-requires : tie.Need-slave-drive-requires
 slave-drive-requires c κs = search needs
@@ -35,6 +38,7 @@ pub motorola-clock-spec : {M : Type 1} → statement M
 motorola-clock-spec =
     tie.close
     (tie.spec
+    capture-width-requires
     capture-step-requires
     returns
     slave-drive-requires

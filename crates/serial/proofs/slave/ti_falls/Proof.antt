@@ -1,9 +1,12 @@
+use mathlib.Core.Path.{_∙_, sym}
 use Rattle.registers.proofs.Picks.{pick-no, pick-yes}
 use Rattle.serial.specs.Slave.{tiFalls}
-use mathlib.Core.Path.{_∙_, sym}
 use borrow.Author.Needs.{needs}
 use Rattle.serial.proofs.slave.ti_falls.Statement.{statement}
 use Rattle.serial.proofs.slave.ti_falls.Tie as tie
+
+capture-width-requires : tie.Need-capture-width-requires
+capture-width-requires c κs = search needs
 
 cast-early : tie.Need-cast-early
 cast-early c = search needs
@@ -31,14 +34,14 @@ no-word-requires c κs = search needs
 
 returns : tie.Need-returns
 unfolding tiFalls
-returns c = rw (c .before .before .before .before .before .if1 .taken, c .before .before .before .before .if2 .taken, c .no-word .ensures, c .before .with-mark2 .ensures, c .before .before .with-frame .ensures, c .before .before .before .clear-shift .ensures)
+returns c = rw (c .before .before .before .before .before .if1 .taken, ← c .before .before .before .before .before .before .before .before .before .capture-width .ensures, c .before .before .before .before .if2 .taken, c .no-word .ensures, c .before .with-mark2 .ensures, c .before .before .with-frame .ensures, c .before .before .before .clear-shift .ensures)
 
 capture-step-requires : tie.Need-capture-step-requires
 capture-step-requires c κs = search needs
 
 returns-2 : tie.Need-returns-2
 unfolding tiFalls
-returns-2 c = rw (c .capture-step .ensures, c .before .before .before .with-mark .ensures) (sym (pick-yes _ _ (c .before .before .if1 .taken) ∙ pick-no _ _ (c .before .if2 .left)))
+returns-2 c = rw (← c .before .before .before .before .before .before .capture-width .ensures, c .capture-step .ensures, c .before .before .before .with-mark .ensures) (sym (pick-yes _ _ (c .before .before .if1 .taken) ∙ pick-no _ _ (c .before .if2 .left)))
 
 no-word-requires-2 : tie.Need-no-word-requires-2
 no-word-requires-2 c κs = search needs
@@ -51,6 +54,7 @@ pub ti-falls-spec : {M : Type 1} → statement M
 ti-falls-spec =
     tie.close
     (tie.spec
+    capture-width-requires
     cast-early
     add-early
     cast-early-2

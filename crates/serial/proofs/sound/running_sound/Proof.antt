@@ -9,9 +9,13 @@ last-slot-requires c κs = search needs
 cast-result : tie.Need-cast-result
 cast-result c = search needs
 
+capture-width-requires : tie.Need-capture-width-requires
+capture-width-requires c κs = search needs
+
 returns : tie.Need-returns
 unfolding runningSound
-returns c = rw (c .before .before .before .before .before .last-slot .ensures)
+returns c = rw (c .before .before .before .before .before .last-slot .ensures, c .before .capture-width .ensures)
 
 pub running-sound-spec : {M : Type 1} → statement M
-running-sound-spec = tie.close (tie.spec last-slot-requires cast-result returns)
+running-sound-spec =
+    tie.close (tie.spec last-slot-requires cast-result capture-width-requires returns)
