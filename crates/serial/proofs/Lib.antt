@@ -4,6 +4,7 @@ pub mod Accesses
 pub mod Status
 pub mod Cycles
 pub mod Soundness
+pub mod Unreceived
 pub mod Inputs
 pub mod Exchange
 pub mod Drawing

@@ -27,7 +27,8 @@ use Rattle.serial.proofs.Exchange.Moves.{sending, shifted}
 use Rattle.serial.proofs.Exchange.Trace.{iterate, iterate-add}
 use Rattle.serial.specs.Drawing.{slotTotal, drawing, stretch}
 use Rattle.serial.proofs.Drawing.Told.{Serves, idle-released, length-stretch, length-drawing}
-use Rattle.serial.proofs.Drawing.Solo.{bare, bareShift, bareStep, Solo, moves, acted, cycle, soloOf, Runs, solo-cycle, runs-cycle, Goes, none, more}
+use Rattle.serial.proofs.Unreceived.{withoutReceived, shiftWithoutReceived, stepWithoutReceived}
+use Rattle.serial.proofs.Drawing.Solo.{Solo, moves, acted, cycle, soloOf, Runs, solo-cycle, runs-cycle, Goes, none, more}
 use Rattle.serial.proofs.Drawing.Slot.{fixed, solo, on, restAt, at, past, Live, Slot, cycle-in, first-cycle, slot-goes, draws-goes, Draws, Over, over, Last, last, Until}
 use Rattle.serial.proofs.Drawing.MotorolaWords.{frames0-until, frames1-until}
 use Rattle.serial.proofs.Drawing.TiWords.{framesTi-until}
@@ -68,12 +69,12 @@ module _ (s : Settings) where
       go false false false = refl
 
   -- without a frame and a word nothing happens
-  acted-free : (e : Engine) → e .frame ≡ false → acted s (solo [] e) ≡ solo [] (bare e)
+  acted-free : (e : Engine) → e .frame ≡ false → acted s (solo [] e) ≡ solo [] (withoutReceived e)
   unfolding acted moves masterStep acting
   acted-free e f = go (e .frame) (resting e) f
     where
       go : (t r : Bool) → t ≡ false
-          → _≡_ {A = Solo} (record { tx = pick (bareStep (pick ((t && eqb (e .elapsed .0) 0) || (r && false)) (act s e false 0 (dataBit s e false) (eventOf s (e .slot))) (noWord e)) .takes) (rest []) []; engine = bareStep (pick ((t && eqb (e .elapsed .0) 0) || (r && false)) (act s e false 0 (dataBit s e false) (eventOf s (e .slot))) (noWord e)) .engine }) (solo [] (bare e))
+          → _≡_ {A = Solo} (record { tx = pick (stepWithoutReceived (pick ((t && eqb (e .elapsed .0) 0) || (r && false)) (act s e false 0 (dataBit s e false) (eventOf s (e .slot))) (noWord e)) .takes) (rest []) []; engine = stepWithoutReceived (pick ((t && eqb (e .elapsed .0) 0) || (r && false)) (act s e false 0 (dataBit s e false) (eventOf s (e .slot))) (noWord e)) .engine }) (solo [] (withoutReceived e))
       go true r k = absurd (true≢false k)
       go false true k = refl
       go false false k = refl
@@ -81,7 +82,7 @@ module _ (s : Settings) where
   rest-free : (e : Engine) → e .frame ≡ false → busy (cycle s (solo [] e)) ≡ false
   unfolding cycle
   rest-free e f =
-      ap (λ (z : Solo). busy (solo (z .tx) (masterEnd s (z .engine)))) (acted-free e f) ∙ ap (λ (t : Bool). t || false) (end-free (bare e) f)
+      ap (λ (z : Solo). busy (solo (z .tx) (masterEnd s (z .engine)))) (acted-free e f) ∙ ap (λ (t : Bool). t || false) (end-free (withoutReceived e) f)
 
   cycle-free : (x : Solo) → busy x ≡ false → busy (cycle s x) ≡ false
   cycle-free x = go (x .tx) (x .engine)
@@ -138,13 +139,13 @@ module _ (s : Settings) where
       go false q = absurd (true≢false (sym (idle-released (s .format) (s .polarity)) ∙ ap (λ (t : Bool). pick t (frameLines s (levelsOf s (not (eqb (e .shift .captured) 0)) (e .slot)) (e .shift .level)) (idleOn (s .format) (s .polarity)) .released) (sym q) ∙ k))
 
   -- inside a slot
-  run-in : (j c : ℕ) (tx : List ℕ) (e : Engine) → Live e → c + 1 + j < s .divisor .0 → run j (solo tx (past s (c + 1) (bare e))) ≡ solo tx (at (c + 1 + j) (bare e))
-  run-in zero c tx e live l = ap (solo tx) (pick-yes _ _ (lt-ltb (c + 1) (s .divisor .0) (omega arith)) ∙ ap (λ (i : ℕ). at i (bare e)) (omega arith))
+  run-in : (j c : ℕ) (tx : List ℕ) (e : Engine) → Live e → c + 1 + j < s .divisor .0 → run j (solo tx (past s (c + 1) (withoutReceived e))) ≡ solo tx (at (c + 1 + j) (withoutReceived e))
+  run-in zero c tx e live l = ap (solo tx) (pick-yes _ _ (lt-ltb (c + 1) (s .divisor .0) (omega arith)) ∙ ap (λ (i : ℕ). at i (withoutReceived e)) (omega arith))
   run-in (suc j) c tx e live l =
       let q : c + 1 + 1 + j ≡ c + 1 + suc j = omega arith in
       ap (run j) (ap (cycle s) (ap (solo tx) (pick-yes _ _ (lt-ltb (c + 1) (s .divisor .0) (omega arith)))) ∙ cycle-in s tx e c live)
       ∙ run-in j (c + 1) tx e live (omega arith)
-      ∙ ap (λ (i : ℕ). solo tx (at i (bare e))) q
+      ∙ ap (λ (i : ℕ). solo tx (at i (withoutReceived e))) q
 
   -- the last cycle of a driven slot begins in the frame
   busy-in : {x y : Solo} {l : Lines} → (k : Slot s x l y) → l .released ≡ false → (j : ℕ) → suc j < s .divisor .0 → busy (run (suc j) x) ≡ true
@@ -244,19 +245,19 @@ abbrev pub busyAfter : DeviceModel → List Pins → Bool
 busyAfter d ps = busyDevice (after d ps)
 
 module _ (s : Settings) (d : DeviceModel) (k : Fresh s d) where
-  begins : soloOf d ≡ solo (d .registers .tx) (restAt (bareShift (d .engine .shift)))
+  begins : soloOf d ≡ solo (d .registers .tx) (restAt (shiftWithoutReceived (d .engine .shift)))
   begins = ap (solo (d .registers .tx)) (fresh-engine s d k)
 
-  busy-is : (ps : List Pins) (ws : List ℕ) → d .registers .tx ≡ ws → busyAfter d ps ≡ busy (run s (length ps) (solo ws (restAt (bareShift (d .engine .shift)))))
+  busy-is : (ps : List Pins) (ws : List ℕ) → d .registers .tx ≡ ws → busyAfter d ps ≡ busy (run s (length ps) (solo ws (restAt (shiftWithoutReceived (d .engine .shift)))))
   unfolding busyOf busyDevice
   busy-is ps ws e =
-      ap busy (after-solo s d (record { set = k .set; enabled = k .enabled; master = k .master }) ps ∙ ap (run s (length ps)) (begins ∙ ap (λ (v : List ℕ). solo v (restAt (bareShift (d .engine .shift)))) e))
+      ap busy (after-solo s d (record { set = k .set; enabled = k .enabled; master = k .master }) ps ∙ ap (run s (length ps)) (begins ∙ ap (λ (v : List ℕ). solo v (restAt (shiftWithoutReceived (d .engine .shift)))) e))
 
-  frees : (w : ℕ) (ws : List ℕ) → Frees s (solo (w ∷ ws) (restAt (bareShift (d .engine .shift)))) (busyCycles s (suc (length ws)) .0)
+  frees : (w : ℕ) (ws : List ℕ) → Frees s (solo (w ∷ ws) (restAt (shiftWithoutReceived (d .engine .shift)))) (busyCycles s (suc (length ws)) .0)
   frees w ws =
-      subst (λ (u : Settings). Frees u (solo (w ∷ ws) (restAt (bareShift (d .engine .shift)))) (busyCycles s (suc (length ws)) .0))
+      subst (λ (u : Settings). Frees u (solo (w ∷ ws) (restAt (shiftWithoutReceived (d .engine .shift)))) (busyCycles s (suc (length ws)) .0))
       (fixed-own s (k .master) (k .enabled))
-      (frees-on s (s .format) (s .phase) (k .serves) (omega (arith, k .least)) (k .divisor) (bareShift (d .engine .shift)) w ws
+      (frees-on s (s .format) (s .phase) (k .serves) (omega (arith, k .least)) (k .divisor) (shiftWithoutReceived (d .engine .shift)) w ws
       (length-drawing (fixed (s .format) (s .phase) s) (omega (arith, k .least)) (w ∷ ws)))
 
   pub stays-busy : (ps : List Pins) → length ps < busyCycles s (length (d .registers .tx)) .0 → busyAfter d ps ≡ true
@@ -266,16 +267,16 @@ module _ (s : Settings) (d : DeviceModel) (k : Fresh s d) where
       go [] e l = absurd (omega arith)
       go (w ∷ ws) e l =
           let r = frees w ws in
-          busy-is ps (w ∷ ws) e ∙ busy-before s (r .last) (length ps) (solo (w ∷ ws) (restAt (bareShift (d .engine .shift)))) (r .before) (omega (arith, r .next, l))
+          busy-is ps (w ∷ ws) e ∙ busy-before s (r .last) (length ps) (solo (w ∷ ws) (restAt (shiftWithoutReceived (d .engine .shift)))) (r .before) (omega (arith, r .next, l))
 
   pub gets-free : (ps : List Pins) → busyCycles s (length (d .registers .tx)) .0 ≤ length ps → busyAfter d ps ≡ false
   gets-free ps = go (d .registers .tx) refl
     where
       go : (ws : List ℕ) → d .registers .tx ≡ ws → busyCycles s (length ws) .0 ≤ length ps → busyAfter d ps ≡ false
-      go [] e l = busy-is ps [] e ∙ run-free s (length ps) (solo [] (restAt (bareShift (d .engine .shift)))) refl
+      go [] e l = busy-is ps [] e ∙ run-free s (length ps) (solo [] (restAt (shiftWithoutReceived (d .engine .shift)))) refl
       go (w ∷ ws) e l =
           let r = frees w ws in
-          let x = solo (w ∷ ws) (restAt (bareShift (d .engine .shift))) in
+          let x = solo (w ∷ ws) (restAt (shiftWithoutReceived (d .engine .shift))) in
           let q : length ps ≡ suc (r .last) + (length ps - suc (r .last)) = omega (arith, r .next, l) in
           busy-is ps (w ∷ ws) e ∙ ap (λ (n : ℕ). busy (run s n x)) q ∙ ap busy (iterate-add (cycle s) (suc (r .last)) (length ps - suc (r .last)) x)
           ∙ run-free s (length ps - suc (r .last)) (run s (suc (r .last)) x) (r .free)

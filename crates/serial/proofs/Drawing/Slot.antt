@@ -22,7 +22,8 @@ use Rattle.serial.proofs.Exchange.Core.{waits}
 use Rattle.serial.proofs.Exchange.Ends.{waits-cons}
 use Rattle.serial.proofs.Exchange.Moves.{sending, shifted}
 use Rattle.serial.specs.Drawing.{idle, bitLines, stretch}
-use Rattle.serial.proofs.Drawing.Solo.{bare, bareStep, Solo, moves, acted, cycle, shows, Goes, none, more}
+use Rattle.serial.proofs.Unreceived.{withoutReceived, stepWithoutReceived}
+use Rattle.serial.proofs.Drawing.Solo.{Solo, moves, acted, cycle, shows, Goes, none, more}
 use Rattle.serial.specs.declared.engine.Shift.{Shift}
 use Rattle.serial.specs.declared.engine.Engine.{Engine}
 use Rattle.serial.specs.declared.engine.Step.{Step}
@@ -65,16 +66,16 @@ module _ (s : Settings) where
   end-slot e c live = ap (λ (t : Bool). pick (t && eqb c 0) (at c e) (past (c + 1) e)) live
 
   -- events happen in a slot's first cycle only
-  acted-in : (tx : List ℕ) (e : Engine) (c : ℕ) → acted s (solo tx (at (c + 1) (bare e))) ≡ solo tx (at (c + 1) (bare e))
+  acted-in : (tx : List ℕ) (e : Engine) (c : ℕ) → acted s (solo tx (at (c + 1) (withoutReceived e))) ≡ solo tx (at (c + 1) (withoutReceived e))
   unfolding acted moves masterStep acting resting
   acted-in tx e c = rw (ne-eqb (c + 1) 0 (omega arith), and-false (e .frame), and-false (not (e .frame) && eqb (e .slot .0) 0))
 
-  pub cycle-in : (tx : List ℕ) (e : Engine) (c : ℕ) → Live e → cycle s (solo tx (at (c + 1) (bare e))) ≡ solo tx (past (c + 1 + 1) (bare e))
+  pub cycle-in : (tx : List ℕ) (e : Engine) (c : ℕ) → Live e → cycle s (solo tx (at (c + 1) (withoutReceived e))) ≡ solo tx (past (c + 1 + 1) (withoutReceived e))
   unfolding cycle
   cycle-in tx e c live =
-      ap (λ (z : Solo). solo (z .tx) (masterEnd s (z .engine))) (acted-in tx e c) ∙ ap (solo tx) (end-slot (bare e) (c + 1) live)
+      ap (λ (z : Solo). solo (z .tx) (masterEnd s (z .engine))) (acted-in tx e c) ∙ ap (solo tx) (end-slot (withoutReceived e) (c + 1) live)
 
-  shows-in : (tx : List ℕ) (e : Engine) (c : ℕ) → shows s (solo tx (at (c + 1) (bare e))) ≡ masterLines s (bare e)
+  shows-in : (tx : List ℕ) (e : Engine) (c : ℕ) → shows s (solo tx (at (c + 1) (withoutReceived e))) ≡ masterLines s (withoutReceived e)
   unfolding masterLines
   shows-in tx e c = ap (λ (z : Solo). masterLines s (z .engine)) (acted-in tx e c)
 
@@ -86,7 +87,7 @@ module _ (s : Settings) where
   goes-then (more a b g) h = more a b (goes-then g h)
 
   tail : (j c : ℕ) (tx : List ℕ) (e : Engine) → Live e → c + 1 + j ≡ s .divisor .0
-      → Goes s (replicate j (masterLines s (bare e))) (solo tx (past (c + 1) (bare e))) (solo tx (onward (bare e)))
+      → Goes s (replicate j (masterLines s (withoutReceived e))) (solo tx (past (c + 1) (withoutReceived e))) (solo tx (onward (withoutReceived e)))
   tail zero c tx e live q = goes-from (ap (solo tx) (pick-no _ _ (le-ltb (c + 1) (s .divisor .0) (omega arith)))) none
   tail (suc j) c tx e live q =
       goes-from (ap (solo tx) (pick-yes _ _ (lt-ltb (c + 1) (s .divisor .0) (omega arith))))
@@ -96,10 +97,10 @@ module _ (s : Settings) where
   pub record Slot (x : Solo) (l : Lines) (y : Solo) : Type 0 where
     pub state : Solo
     pub acts : acted s x ≡ state
-    pub begins : state .engine ≡ at 0 (bare (state .engine))
+    pub begins : state .engine ≡ at 0 (withoutReceived (state .engine))
     pub lines : masterLines s (state .engine) ≡ l
     pub live : Live (state .engine)
-    pub ends : solo (state .tx) (onward (bare (state .engine))) ≡ y
+    pub ends : solo (state .tx) (onward (withoutReceived (state .engine))) ≡ y
 
   -- slots in a row
   pub data Draws : List Lines → Solo → Solo → Type 0 where
@@ -116,15 +117,15 @@ module _ (s : Settings) where
   pub draws-same : {ls ks : List Lines} {x y : Solo} → Draws ls x y → ls ≡ ks → Draws ks x y
   draws-same {x = x} {y = y} d e = subst (λ (u : List Lines). Draws u x y) e d
 
-  pub first-cycle : {x y : Solo} {l : Lines} → (k : Slot x l y) → cycle s x ≡ solo (k .state .tx) (past (0 + 1) (bare (k .state .engine)))
+  pub first-cycle : {x y : Solo} {l : Lines} → (k : Slot x l y) → cycle s x ≡ solo (k .state .tx) (past (0 + 1) (withoutReceived (k .state .engine)))
   unfolding cycle
   first-cycle k =
       let z = k .state in
       ap (λ (u : Solo). solo (u .tx) (masterEnd s (u .engine))) (k .acts)
       ∙ ap (λ (e : Engine). solo (z .tx) (masterEnd s e)) (k .begins)
-      ∙ ap (solo (z .tx)) (end-slot (bare (z .engine)) 0 (k .live))
+      ∙ ap (solo (z .tx)) (end-slot (withoutReceived (z .engine)) 0 (k .live))
 
-  state-lines : {x y : Solo} {l : Lines} → (k : Slot x l y) → masterLines s (bare (k .state .engine)) ≡ l
+  state-lines : {x y : Solo} {l : Lines} → (k : Slot x l y) → masterLines s (withoutReceived (k .state .engine)) ≡ l
   unfolding masterLines
   state-lines k = k .lines
 
@@ -135,8 +136,8 @@ module _ (s : Settings) where
       let q : suc j ≡ s .divisor .0 = omega arith in
       subst (λ (n : ℕ). Goes s (replicate n l) x y) q
       (more (ap (λ (u : Solo). masterLines s (u .engine)) (k .acts) ∙ k .lines) (first-cycle k)
-      (subst (λ (m : Lines). Goes s (replicate j m) (solo (z .tx) (past (0 + 1) (bare (z .engine)))) y) (state-lines k)
-      (subst (λ (u : Solo). Goes s (replicate j (masterLines s (bare (z .engine)))) (solo (z .tx) (past (0 + 1) (bare (z .engine)))) u) (k .ends)
+      (subst (λ (m : Lines). Goes s (replicate j m) (solo (z .tx) (past (0 + 1) (withoutReceived (z .engine)))) y) (state-lines k)
+      (subst (λ (u : Solo). Goes s (replicate j (masterLines s (withoutReceived (z .engine)))) (solo (z .tx) (past (0 + 1) (withoutReceived (z .engine)))) u) (k .ends)
       (tail j 0 (z .tx) (z .engine) (k .live) (omega arith)))))
 
   -- slots drawn are cycles shown
@@ -169,7 +170,7 @@ module _ (s : Settings) where
 
   -- an event in a frame after which the frame goes on
   pub slot-on : (n c : ℕ) (d : Bool) (w : ℕ) (tx : List ℕ) (v : Event) (m c′ : ℕ) (d′ : Bool) (w′ : ℕ) (t : Bool) (l : Lines) (k : ℕ)
-      → eventOf s (slots n) ≡ v → bareStep (act s (sending n (shifted c d w 0)) (waits tx) (getD tx 0 0) (dataBit s (sending n (shifted c d w 0)) false) v) ≡ move m c′ d′ w′ t
+      → eventOf s (slots n) ≡ v → stepWithoutReceived (act s (sending n (shifted c d w 0)) (waits tx) (getD tx 0 0) (dataBit s (sending n (shifted c d w 0)) false) v) ≡ move m c′ d′ w′ t
       → masterLines s (sending m (shifted c′ d′ w′ 0)) ≡ l → m < lastSlot s .0 → m + 1 ≡ k → Slot s (on n c d w tx) l (on k c′ d′ w′ (pick t (rest tx) tx))
   unfolding acted moves masterStep acting
   slot-on n c d w tx v m c′ d′ w′ t l k e a q b z =
@@ -177,7 +178,7 @@ module _ (s : Settings) where
       record {
         state = on m c′ d′ w′ (pick t (rest tx) tx);
         acts = ap (λ (r : Step). record { tx = pick (r .takes) (rest tx) tx; engine = r .engine })
-            (ap (λ (u : Event). bareStep (act s x (waits tx) (getD tx 0 0) (dataBit s x false) u)) e ∙ a);
+            (ap (λ (u : Event). stepWithoutReceived (act s x (waits tx) (getD tx 0 0) (dataBit s x false) u)) e ∙ a);
         begins = refl;
         lines = q;
         live = refl;
@@ -186,7 +187,7 @@ module _ (s : Settings) where
 
   -- an event in the last slot of a frame that has no idle slot
   pub slot-last : (n c : ℕ) (d : Bool) (w : ℕ) (tx : List ℕ) (v : Event) (c′ : ℕ) (d′ : Bool) (w′ : ℕ) (l : Lines)
-      → eventOf s (slots n) ≡ v → bareStep (act s (sending n (shifted c d w 0)) (waits tx) (getD tx 0 0) (dataBit s (sending n (shifted c d w 0)) false) v) ≡ move n c′ d′ w′ false
+      → eventOf s (slots n) ≡ v → stepWithoutReceived (act s (sending n (shifted c d w 0)) (waits tx) (getD tx 0 0) (dataBit s (sending n (shifted c d w 0)) false) v) ≡ move n c′ d′ w′ false
       → masterLines s (sending n (shifted c′ d′ w′ 0)) ≡ l → n ≡ lastSlot s .0 → Slot s (on n c d w tx) l (solo tx (restAt clearShift))
   unfolding acted moves masterStep acting onward
   slot-last n c d w tx v c′ d′ w′ l e a q b =
@@ -194,7 +195,7 @@ module _ (s : Settings) where
       record {
         state = on n c′ d′ w′ tx;
         acts = ap (λ (r : Step). record { tx = pick (r .takes) (rest tx) tx; engine = r .engine })
-            (ap (λ (u : Event). bareStep (act s x (waits tx) (getD tx 0 0) (dataBit s x false) u)) e ∙ a);
+            (ap (λ (u : Event). stepWithoutReceived (act s x (waits tx) (getD tx 0 0) (dataBit s x false) u)) e ∙ a);
         begins = refl;
         lines = q;
         live = refl;
@@ -203,15 +204,15 @@ module _ (s : Settings) where
 
   -- an idle master with a waiting word starts slot 0
   pub slot-start : (x : Shift) (w : ℕ) (tx : List ℕ) (v : Event) (d′ : Bool) (l : Lines)
-      → eventOf s (slots 0) ≡ v → bareStep (act s (restAt x) true w (dataBit s (restAt x) false) v) ≡ move 0 0 d′ w true
+      → eventOf s (slots 0) ≡ v → stepWithoutReceived (act s (restAt x) true w (dataBit s (restAt x) false) v) ≡ move 0 0 d′ w true
       → masterLines s (sending 0 (shifted 0 d′ w 0)) ≡ l → 0 < lastSlot s .0 → Slot s (solo (w ∷ tx) (restAt x)) l (on 1 0 d′ w tx)
   unfolding acted moves masterStep acting resting
   slot-start x w tx v d′ l e a q b =
       record {
         state = on 0 0 d′ w tx;
-        acts = ap (λ (t : Bool). record { tx = pick (bareStep (pick t (act s (restAt x) t w (dataBit s (restAt x) false) (eventOf s (slots 0))) (noWord (restAt x))) .takes) tx (w ∷ tx); engine = bareStep (pick t (act s (restAt x) t w (dataBit s (restAt x) false) (eventOf s (slots 0))) (noWord (restAt x))) .engine }) (waits-cons w tx)
+        acts = ap (λ (t : Bool). record { tx = pick (stepWithoutReceived (pick t (act s (restAt x) t w (dataBit s (restAt x) false) (eventOf s (slots 0))) (noWord (restAt x))) .takes) tx (w ∷ tx); engine = stepWithoutReceived (pick t (act s (restAt x) t w (dataBit s (restAt x) false) (eventOf s (slots 0))) (noWord (restAt x))) .engine }) (waits-cons w tx)
             ∙ ap (λ (r : Step). record { tx = pick (r .takes) tx (w ∷ tx); engine = r .engine })
-            (ap (λ (u : Event). bareStep (act s (restAt x) true w (dataBit s (restAt x) false) u)) e ∙ a);
+            (ap (λ (u : Event). stepWithoutReceived (act s (restAt x) true w (dataBit s (restAt x) false) u)) e ∙ a);
         begins = refl;
         lines = q;
         live = refl;
@@ -226,7 +227,7 @@ module _ (s : Settings) where
       record {
         state = solo tx (parkAt n);
         acts = ap (λ (r : Step). record { tx = pick (r .takes) (rest tx) tx; engine = r .engine })
-            (ap (λ (u : Event). bareStep (act s x (waits tx) (getD tx 0 0) (dataBit s x false) u)) e);
+            (ap (λ (u : Event). stepWithoutReceived (act s x (waits tx) (getD tx 0 0) (dataBit s x false) u)) e);
         begins = refl;
         lines = refl;
         live = ne-eqb n 0 (omega arith);
@@ -247,7 +248,7 @@ module _ (s : Settings) where
       }
 
   -- a capture
-  pub capture-move : (b : ℕ) (bit : Bool) (n c : ℕ) (d : Bool) (w : ℕ) → c < b → bareStep (captureStep b bit (sending n (shifted c d w 0))) ≡ move n (c + 1) d w false
+  pub capture-move : (b : ℕ) (bit : Bool) (n c : ℕ) (d : Bool) (w : ℕ) → c < b → stepWithoutReceived (captureStep b bit (sending n (shifted c d w 0))) ≡ move n (c + 1) d w false
   unfolding captureStep capturedOf
   capture-move b bit n c d w l = rw (lt-ltb c b l)
 

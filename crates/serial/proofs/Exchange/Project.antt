@@ -20,6 +20,7 @@ use Rattle.serial.specs.Master.{act, masterStep, masterEnd, ticked, acti
 use Rattle.serial.specs.Slave.{slaveStep, slaveEnd, motorolaSlave, motorolaSelect, motorolaEdges, motorolaClock, captureEdge, driveEdge, tiSlave, tiFalls, tiRises}
 use Rattle.serial.specs.Cycle.{DeviceModel, stepOf, endOf, takeIf, receiveIf, deviceStep, completedOf, follow, cycleOf}
 use Rattle.serial.specs.Pair.{wire, PairModel, pairCycle}
+use Rattle.serial.proofs.Cycles.{step-tx}
 use Rattle.serial.proofs.Exchange.Core.{Receiver, Side, Pair, plain, push, moved, waits, withEngine, masterMoves, slaveMoves, acted, masterSide, slaveSide, coreCycle}
 use Rattle.serial.specs.declared.History.{History}
 use Rattle.serial.specs.declared.engine.Engine.{Engine}
@@ -155,13 +156,6 @@ slave-lines-plain f phase p b h k e = refl
 -- the register file after a step, as the exchange has it
 abbrev pub rxOf : Model → List ℕ → Receiver
 rxOf m log = record { held = m .rx; ror = m .ror; log = log }
-
-step-tx : (m : Model) (t c : Bool) (w : ℕ) (f : Bool) → endCycle (receiveIf (takeIf m t) c w) f .tx ≡ pick t (rest (m .tx)) (m .tx)
-unfolding endCycle receiveIf takeIf receiveWord takeWord
-step-tx m true true w f = refl
-step-tx m true false w f = refl
-step-tx m false true w f = refl
-step-tx m false false w f = refl
 
 step-rx : (m : Model) (t c : Bool) (w : ℕ) (f : Bool) (log : List ℕ)
     → rxOf (endCycle (receiveIf (takeIf m t) c w) f) (log ++ pick c (w ∷ []) []) ≡ pick c (push w (rxOf m log)) (rxOf m log)
