@@ -6,6 +6,7 @@ pub mod Cycles
 pub mod Soundness
 pub mod Unreceived
 pub mod Inputs
+pub mod WithinSlot
 pub mod Exchange
 pub mod Drawing
 pub mod Recordings

@@ -9,13 +9,14 @@ use Rattle.registers.specs.Choose.{pick}
 use Rattle.registers.proofs.Picks.{pick-no, pick-alike}
 use Rattle.registers.specs.Settings.{settingsOf}
 use Rattle.registers.specs.Transfer.{rest, waitingOf, nextWord}
+use Rattle.registers.specs.declared.Control.{Control}
 use Rattle.registers.specs.declared.settings.Settings.{Settings}
 use Rattle.serial.specs.Engine.{cleared, driven, capturedOf, captureStep, noWord}
 use Rattle.serial.specs.Slots.{eventOf, lastSlot}
 use Rattle.serial.specs.Lines.{masterLines, linesOf}
 use Rattle.serial.specs.Master.{joinedShift, act, resting, acting, dataBit, masterStep, ticked, masterEnd}
 use Rattle.serial.specs.Cycle.{DeviceModel, stepOf, endOf, deviceStep, cycleOf}
-use Rattle.serial.proofs.Cycles.{tx-cycle}
+use Rattle.serial.proofs.Cycles.{control-cycle, tx-cycle}
 use Rattle.serial.proofs.Exchange.Core.{waits}
 use Rattle.serial.specs.declared.engine.Shift.{Shift}
 use Rattle.serial.specs.declared.engine.Engine.{Engine}
@@ -83,6 +84,9 @@ end-unreceived s e =
 -- MS is 0.
 abbrev pub Masters : DeviceModel → Type 0
 Masters d = settingsOf (d .registers .control) .slave ≡ false
+
+pub masters-cycle : (d : DeviceModel) (pins : Pins) → Masters d → Masters (cycleOf d pins)
+masters-cycle d pins k = ap (λ (c : Control). settingsOf c .slave) (control-cycle d pins) ∙ k
 
 -- A master's step, by its settings, its words to send and its engine.
 unfoldable pub sendStep : Settings → List ℕ → Engine → Step

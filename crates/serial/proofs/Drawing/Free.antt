@@ -6,17 +6,16 @@ use mathlib.Core.List.{List, [], _∷_, _++_}
 use native.Mathlib.Omega.{arith}
 use lib.Dec.{ltb, eqb}
 use lib.ListN.{length, length-append, replicate, length-replicate}
-use borrow.Author.Tests.{lt-ltb}
 use Rattle.registers.specs.Choose.{pick}
-use Rattle.registers.proofs.Picks.{pick-yes}
+use Rattle.registers.proofs.Picks.{pick-both}
 use Rattle.registers.specs.Flags.{busyOf}
-use Rattle.registers.specs.Time.{cycles, slots, cyclesOf}
+use Rattle.registers.specs.Time.{slots, cyclesOf}
 use Rattle.registers.specs.declared.time.Cycles.{Cycles}
 use Rattle.registers.specs.Transfer.{rest}
 use Rattle.registers.specs.declared.settings.Format.{Format}
 use Rattle.registers.specs.declared.settings.Format.the-variants.{Motorola, Ti, Microwire, Reserved}
 use Rattle.registers.specs.declared.settings.Settings.{Settings}
-use Rattle.serial.specs.Engine.{cleared, clearShift, noWord}
+use Rattle.serial.specs.Engine.{clearShift, noWord}
 use Rattle.serial.specs.Slots.{eventOf, lastSlot, levelsOf}
 use Rattle.serial.specs.Lines.{masterLines, idleOn, frameLines}
 use Rattle.serial.specs.Master.{act, resting, acting, dataBit, masterStep, ticked, masterEnd}
@@ -28,8 +27,9 @@ use Rattle.serial.proofs.Exchange.Trace.{iterate, iterate-add}
 use Rattle.serial.specs.Drawing.{slotTotal, drawing, stretch}
 use Rattle.serial.proofs.Drawing.Told.{Serves, idle-released, length-stretch, length-drawing}
 use Rattle.serial.proofs.Unreceived.{withoutReceived, shiftWithoutReceived, stepWithoutReceived}
+use Rattle.serial.proofs.WithinSlot.{elapsedAt, Live, afterCycles, after-within}
 use Rattle.serial.proofs.Drawing.Solo.{Solo, moves, acted, cycle, soloOf, Runs, solo-cycle, runs-cycle, Goes, none, more}
-use Rattle.serial.proofs.Drawing.Slot.{fixed, solo, on, restAt, at, past, Live, Slot, cycle-in, first-cycle, slot-goes, draws-goes, Draws, Over, over, Last, last, Until}
+use Rattle.serial.proofs.Drawing.Slot.{fixed, solo, on, restAt, Slot, cycle-within, first-cycle, slot-goes, draws-goes, Draws, Over, over, Last, last, Until}
 use Rattle.serial.proofs.Drawing.MotorolaWords.{frames0-until, frames1-until}
 use Rattle.serial.proofs.Drawing.TiWords.{framesTi-until}
 use Rattle.serial.proofs.Drawing.MicrowireWords.{framesM-until}
@@ -58,15 +58,10 @@ module _ (s : Settings) where
   -- the end of a cycle begins no frame
   end-free : (e : Engine) → e .frame ≡ false → masterEnd s e .frame ≡ false
   unfolding masterEnd ticked
-  end-free e f = go (resting e) (ltb (e .elapsed .0 + 1) (s .divisor .0)) (ltb (e .slot .0) (lastSlot s .0))
-    where
-      go : (t u v : Bool)
-          → pick t e (pick u (record { slot = e .slot; elapsed = cycles (e .elapsed .0 + 1); frame = e .frame; selected = e .selected; mark = e .mark; shift = e .shift })
-          (pick v (record { slot = slots (e .slot .0 + 1); elapsed = cycles 0; frame = e .frame; selected = e .selected; mark = e .mark; shift = e .shift }) cleared)) .frame ≡ false
-      go true u v = f
-      go false true v = f
-      go false false true = f
-      go false false false = refl
+  end-free e f =
+      pick-both (λ (x : Engine). x .frame ≡ false) (resting e) _ _ (λ _. f)
+      (λ _. pick-both (λ (x : Engine). x .frame ≡ false) (ltb (e .elapsed .0 + 1) (s .divisor .0)) _ _ (λ _. f)
+      (λ _. pick-both (λ (x : Engine). x .frame ≡ false) (ltb (e .slot .0) (lastSlot s .0)) _ _ (λ _. f) (λ _. refl)))
 
   -- without a frame and a word nothing happens
   acted-free : (e : Engine) → e .frame ≡ false → acted s (solo [] e) ≡ solo [] (withoutReceived e)
@@ -138,21 +133,20 @@ module _ (s : Settings) where
       go true q = q
       go false q = absurd (true≢false (sym (idle-released (s .format) (s .polarity)) ∙ ap (λ (t : Bool). pick t (frameLines s (levelsOf s (not (eqb (e .shift .captured) 0)) (e .slot)) (e .shift .level)) (idleOn (s .format) (s .polarity)) .released) (sym q) ∙ k))
 
-  -- inside a slot
-  run-in : (j c : ℕ) (tx : List ℕ) (e : Engine) → Live e → c + 1 + j < s .divisor .0 → run j (solo tx (past s (c + 1) (withoutReceived e))) ≡ solo tx (at (c + 1 + j) (withoutReceived e))
-  run-in zero c tx e live l = ap (solo tx) (pick-yes _ _ (lt-ltb (c + 1) (s .divisor .0) (omega arith)) ∙ ap (λ (i : ℕ). at i (withoutReceived e)) (omega arith))
-  run-in (suc j) c tx e live l =
+  run-within : (j c : ℕ) (tx : List ℕ) (e : Engine) → Live e → c + 1 + j < s .divisor .0 → run j (solo tx (afterCycles s (c + 1) (withoutReceived e))) ≡ solo tx (elapsedAt (c + 1 + j) (withoutReceived e))
+  run-within zero c tx e live l = ap (solo tx) (after-within s (c + 1) (withoutReceived e) (omega arith) ∙ ap (λ (i : ℕ). elapsedAt i (withoutReceived e)) (omega arith))
+  run-within (suc j) c tx e live l =
       let q : c + 1 + 1 + j ≡ c + 1 + suc j = omega arith in
-      ap (run j) (ap (cycle s) (ap (solo tx) (pick-yes _ _ (lt-ltb (c + 1) (s .divisor .0) (omega arith)))) ∙ cycle-in s tx e c live)
-      ∙ run-in j (c + 1) tx e live (omega arith)
-      ∙ ap (λ (i : ℕ). solo tx (at i (withoutReceived e))) q
+      ap (run j) (ap (cycle s) (ap (solo tx) (after-within s (c + 1) (withoutReceived e) (omega arith))) ∙ cycle-within s tx c e live)
+      ∙ run-within j (c + 1) tx e live (omega arith)
+      ∙ ap (λ (i : ℕ). solo tx (elapsedAt i (withoutReceived e))) q
 
   -- the last cycle of a driven slot begins in the frame
   busy-in : {x y : Solo} {l : Lines} → (k : Slot s x l y) → l .released ≡ false → (j : ℕ) → suc j < s .divisor .0 → busy (run (suc j) x) ≡ true
   busy-in k r j l =
       let z = k .state in
       let f = driven-frame (z .engine) (ap (λ (v : Lines). v .released) (k .lines) ∙ r) in
-      ap busy (ap (run j) (first-cycle s k) ∙ run-in j 0 (z .tx) (z .engine) (k .live) (omega arith))
+      ap busy (ap (run j) (first-cycle s k) ∙ run-within j 0 (z .tx) (z .engine) (k .live) (omega arith))
       ∙ ap (λ (t : Bool). t || not (eqb (length (z .tx)) 0)) f
 
 -- The first BSY 0 of a load ----------------------------------------------------------------------------------------------

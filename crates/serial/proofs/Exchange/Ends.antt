@@ -21,7 +21,8 @@ use Rattle.serial.specs.Slave.{slaveStep, slaveEnd, motorolaSlave, motor
 use Rattle.serial.specs.Pair.{wire}
 use Rattle.serial.proofs.Exchange.Trace.{Trace, none, more, iterate, trace-ever, trace-run}
 use Rattle.serial.proofs.Exchange.Core.{Receiver, Side, Pair, plain, push, moved, waits, acted, masterSide, slaveSide, coreCycle, busy}
-use Rattle.serial.proofs.Exchange.Settle.{Two, at, onward, slotStep, next, Live, rested, Meets, slots-trace, Lawful, Settled, side-first}
+use Rattle.serial.proofs.WithinSlot.{Live, nextSlot}
+use Rattle.serial.proofs.Exchange.Settle.{Two, slotStep, next, rested, Meets, slots-trace, Lawful, Settled, side-first}
 use Rattle.serial.proofs.Exchange.Quiet.{lawful-motorola}
 use Rattle.serial.proofs.Exchange.Events.{motorola-release, levels-first}
 use Rattle.serial.proofs.Exchange.Moves.{Queues, inFrame, shown, hidden, sending, shifted, acted-by, slave-by, Slot, slot-of, Going}
@@ -74,7 +75,7 @@ module _ (phase : Bool) (b h : ℕ) (k : Queues) where
   freed n = record { tx = k .mtx; rx = k .mrx; engine = parked n; lines = hidden }
 
   pub release-slot : (w v c n : ℕ) → n ≡ 2 * b + 2 → Slot (sm phase b h) (ss phase b h) (filledAt b w v k c false n) (freed n) (releasedAt k (n + 1))
-  unfolding eventOf dataBit wire lastSlot onward masterLines slaveLines slaveEnd slaveStep motorolaSlave slaveSide
+  unfolding eventOf dataBit wire lastSlot nextSlot masterLines slaveLines slaveEnd slaveStep motorolaSlave slaveSide
   release-slot w v c n e =
       slot-of (sm phase b h) (ss phase b h) (filledAt b w v k c false n) (freed n) (releasedAt k (n + 1) .m) (idle k .s) (idle k .s)
       (acted-by (sm phase b h) n (shifted (c + 1) (bitOf b w c) w (cut b v)) (k .mtx) (k .mrx) _ _ (bitOf b v c && true) Release (noWord (parked n)) (motorola-release phase b n e) refl refl)
@@ -87,7 +88,7 @@ module _ (phase : Bool) (b h : ℕ) (k : Queues) where
   parked-acts n d l = rw (ne-eqb n 0 (omega arith))
 
   pub pause-slot : (n : ℕ) → n ≡ 2 * b + 3 → Slot (sm phase b h) (ss phase b h) (releasedAt k n) (freed n) (idle k)
-  unfolding wire lastSlot onward slaveLines slaveEnd slaveStep motorolaSlave slaveSide
+  unfolding wire lastSlot nextSlot slaveLines slaveEnd slaveStep motorolaSlave slaveSide
   pause-slot n e =
       slot-of (sm phase b h) (ss phase b h) (releasedAt k n) (freed n) (idle k .m) (idle k .s) (idle k .s)
       (parked-acts n false (omega arith))
@@ -115,8 +116,8 @@ ever phase b h w v c q vs r l z i =
     let two = pause-slot phase b h k (2 * b + 2 + 1) (omega arith) in
     trace-ever
     (slots-trace (sm phase b h) (ss phase b h) QM QS (lawful-motorola phase b h) l z
-    (more (record { live = subst Live (sym (one .acts)) (ne-eqb (2 * b + 2) 0 (omega arith)); before = refl; during = λ j. ap (λ (x : Side). x .rx) (one .acts); slave = refl; sees = one .gets; rests = ap (λ (t : Two). t .s .rx) (one .steps) }) (one .steps)
-    (more (record { live = subst Live (sym (two .acts)) (ne-eqb (2 * b + 2 + 1) 0 (omega arith)); before = refl; during = λ j. ap (λ (x : Side). x .rx) (two .acts); slave = refl; sees = two .gets; rests = ap (λ (t : Two). t .s .rx) (two .steps) }) (two .steps) none)))
+    (more (record { live = subst (λ (x : Side). Live (x .engine)) (sym (one .acts)) (ne-eqb (2 * b + 2) 0 (omega arith)); before = refl; during = λ j. ap (λ (x : Side). x .rx) (one .acts); slave = refl; sees = one .gets; rests = ap (λ (t : Two). t .s .rx) (one .steps) }) (one .steps)
+    (more (record { live = subst (λ (x : Side). Live (x .engine)) (sym (two .acts)) (ne-eqb (2 * b + 2 + 1) 0 (omega arith)); before = refl; during = λ j. ap (λ (x : Side). x .rx) (two .acts); slave = refl; sees = two .gets; rests = ap (λ (t : Two). t .s .rx) (two .steps) }) (two .steps) none)))
     (refl, refl)
     (idle-stays phase b h q vs r)
     i
@@ -127,7 +128,7 @@ pub freed-busy : (phase : Bool) (b h w v c : ℕ) (q : Receiver) (vs : List ℕ)
 unfolding coreCycle wire
 freed-busy phase b h w v c q vs r l =
     let one = release-slot phase b h (holding [] q vs r) w v c (2 * b + 2) refl in
-    ap busy (side-first (sm phase b h) (filledAt b w v (holding [] q vs r) c false (2 * b + 2) .m) (bitOf b v c && true) (subst Live (sym (one .acts)) (ne-eqb (2 * b + 2) 0 (omega arith))) l)
+    ap busy (side-first (sm phase b h) (filledAt b w v (holding [] q vs r) c false (2 * b + 2) .m) (bitOf b v c && true) (subst (λ (x : Side). Live (x .engine)) (sym (one .acts)) (ne-eqb (2 * b + 2) 0 (omega arith))) l)
     ∙ ap busy (one .acts)
 
 -- What a format gives -------------------------------------------------------------------------------------------------

@@ -15,7 +15,7 @@ use Rattle.registers.specs.declared.settings.Settings.{Settings}
 use Rattle.serial.proofs.Exchange.Trace.{Trace, none, more, iterate, iterate-add, iterate-fixed, trace-map, trace-at, trace-run}
 use Rattle.serial.specs.Bits.{cut}
 use Rattle.serial.proofs.Exchange.Core.{Receiver, Side, Pair, push, coreCycle, busy}
-use Rattle.serial.proofs.Exchange.Settle.{Two, at, next, slotStep, Lawful, rested, Meets, Both, slots-trace}
+use Rattle.serial.proofs.Exchange.Settle.{Two, next, slotStep, Lawful, rested, Meets, Both, slots-trace}
 use Rattle.serial.proofs.Exchange.Moves.{Queues, Going}
 use Rattle.serial.specs.declared.lines.Lines.{Lines}
 use Rattle.serial.proofs.Exchange.Ends.{holding, starts, pushAll, answers, Holds, Exchange}

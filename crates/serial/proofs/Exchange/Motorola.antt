@@ -21,14 +21,14 @@ use Rattle.serial.specs.Pair.{wire}
 use Rattle.serial.proofs.Exchange.Trace.{Trace, none, more, trace-count, trace-end, trace-then}
 use Rattle.serial.proofs.Exchange.Top.{top, top-zero, top-next, top-last}
 use Rattle.serial.proofs.Exchange.Core.{Receiver, Side, plain, push, acted, slaveSide, busy}
-use Rattle.serial.proofs.Exchange.Settle.{Two, at, onward, slotStep, next, Live, Settled}
+use Rattle.serial.proofs.Exchange.Settle.{Two, slotStep, next, Settled}
 use Rattle.serial.proofs.Exchange.Events.{motorola-drive, motorola-capture, motorola-last, motorola-release, lowAt, levels-drive, levels-capture, levels-last, levels-first}
 use Rattle.serial.specs.declared.engine.Engine.{Engine}
 use Rattle.serial.specs.declared.engine.Shift.{Shift}
 use Rattle.serial.specs.declared.lines.Lines.{Lines}
 use Rattle.serial.specs.declared.slots.Levels.{Levels}
 use Rattle.serial.specs.declared.slots.Event.the-variants.{Begin, Drive, Capture, Chain, Release, Pause}
-use Rattle.serial.proofs.Exchange.Moves.{Queues, inFrame, shown, hidden, sending, shifted, slot-parts, acted-by, onward-in, capture-in, completed, capture-last, slave-by, Slot, slot-of, Going, going}
+use Rattle.serial.proofs.Exchange.Moves.{Queues, inFrame, shown, hidden, sending, shifted, slot-parts, acted-by, next-in, capture-in, completed, capture-last, slave-by, Slot, slot-of, Going, going}
 use Rattle.serial.proofs.Exchange.Quiet.{quiet-low}
 
 -- a slave's engine while it is selected
@@ -112,7 +112,7 @@ module _ (phase : Bool) (b h w v : ℕ) (k : Queues) (m : b ≤ 16) where
       (acted-by (sm phase b h) n (shifted c (bitOf b w c) w (top b v c)) (k .mtx) (k .mrx) _ _ (bitOf b v c && true) Capture (noWord (sending n x)) (motorola-capture phase b n c e (omega arith))
       (capture-in b (bitOf b v c && true) (sending n (shifted c (bitOf b w c) w (top b v c))) l ∙ ap (λ (r : ℕ). noWord (sending n (shifted (c + 1) (bitOf b w c) w r))) (next-bit b v c (omega arith) m))
       (lines-at phase b h n x (not phase) (levels-capture phase b n c e (omega arith))))
-      (onward-in (sm phase b h) n x (k .mtx) (k .mrx) _ (omega arith))
+      (next-in (sm phase b h) n x (k .mtx) (k .mrx) _ (omega arith))
       (slave-by (ss phase b h) _ _ (drivenAt phase b h w v k c n .s) (noWord (chosen true x′)) (chosen true x′) (shown (bitOf b v c))
       (slave-captures phase b h (shifted c (bitOf b v c) v (top b w c)) (bitOf b w c) (bitOf b w c) _
       ∙ capture-in b (bitOf b w c && true) (chosen true (shifted c (bitOf b v c) v (top b w c))) l ∙ ap (λ (r : ℕ). noWord (chosen true (shifted (c + 1) (bitOf b v c) v r))) (next-bit b w c (omega arith) m))
@@ -131,7 +131,7 @@ module _ (phase : Bool) (b h w v : ℕ) (k : Queues) (m : b ≤ 16) where
       slot-of (sm phase b h) (ss phase b h) (capturedAt phase b h w v k c n) (pairRun c n) (drivenAt phase b h w v k (c + 1) (n + 1) .m) (drivenAt phase b h w v k (c + 1) (n + 1) .s) (drivenAt phase b h w v k (c + 1) (n + 1) .s)
       (acted-by (sm phase b h) n (shifted (c + 1) (bitOf b w c) w (top b v (c + 1))) (k .mtx) (k .mrx) _ _ (bitOf b v c && true) (Drive (c + 1)) (noWord (sending n x)) (motorola-drive phase b n (c + 1) e l) refl
       (lines-at phase b h n x phase (levels-drive phase b n (c + 1) e l)))
-      (onward-in (sm phase b h) n x (k .mtx) (k .mrx) _ (omega arith))
+      (next-in (sm phase b h) n x (k .mtx) (k .mrx) _ (omega arith))
       (slave-by (ss phase b h) _ _ (capturedAt phase b h w v k c n .s) (noWord (chosen true x′)) (chosen true x′) (shown (bitOf b v (c + 1)))
       (slave-drives phase b h (shifted (c + 1) (bitOf b v c) v (top b w (c + 1))) (bitOf b w c) (bitOf b w (c + 1)) _)
       (in-word phase b h x′ l) refl)
@@ -179,7 +179,7 @@ module _ (phase : Bool) (b h w v : ℕ) (k : Queues) (m : b ≤ 16) where
       (completed (sending n (shifted c (bitOf b w c) w (top b v c))) (cut b v)) (motorola-capture phase b n c e (omega arith))
       (capture-last b (bitOf b v c && true) (sending n (shifted c (bitOf b w c) w (top b v c))) (cut b v) l (last-bit b v c l m))
       (lines-at phase b h n x (not phase) (levels-capture phase b n c e (omega arith))))
-      (onward-in (sm phase b h) n x (k .mtx) (push (cut b v) (k .mrx)) _ (omega arith))
+      (next-in (sm phase b h) n x (k .mtx) (push (cut b v) (k .mrx)) _ (omega arith))
       (slave-by (ss phase b h) _ _ (drivenAt phase b h w v k c n .s) (completed (chosen true (shifted c (bitOf b v c) v (top b w c))) (cut b w)) (chosen false x′) (shown (bitOf b v c))
       (slave-captures phase b h (shifted c (bitOf b v c) v (top b w c)) (bitOf b w c) (bitOf b w c) _
       ∙ capture-last b (bitOf b w c && true) (chosen true (shifted c (bitOf b v c) v (top b w c))) (cut b w) l (last-bit b w c l m))

@@ -18,10 +18,10 @@ use Rattle.serial.specs.Pair.{wire}
 use Rattle.serial.proofs.Exchange.Trace.{Trace, none, more, iterate, trace-count, trace-then, trace-end}
 use Rattle.serial.proofs.Exchange.Top.{top-zero}
 use Rattle.serial.proofs.Exchange.Core.{Receiver, Side, push, slaveSide, coreCycle, busy}
-use Rattle.serial.proofs.Exchange.Settle.{Two, Live, Settled, rested, slotStep}
+use Rattle.serial.proofs.Exchange.Settle.{Two, Settled, rested, slotStep}
 use Rattle.serial.proofs.Exchange.Quiet.{quiet-low}
 use Rattle.serial.proofs.Exchange.Events.{motorola-drive, motorola-last, levels-drive, levels-last}
-use Rattle.serial.proofs.Exchange.Moves.{Queues, inFrame, shown, hidden, sending, shifted, acted-by, onward-in, slave-by, Slot, slot-of, Going, going}
+use Rattle.serial.proofs.Exchange.Moves.{Queues, inFrame, shown, hidden, sending, shifted, acted-by, next-in, slave-by, Slot, slot-of, Going, going}
 use Rattle.serial.proofs.Exchange.Motorola.{sm, ss, step, chosen, drivenAt, filledAt, received, lines-at, in-word, calm, ended, word-run}
 use Rattle.serial.proofs.Exchange.Ends.{front, idle, holding, opened, begin-acts, waits-cons, release-slot, pause-slot, releasedAt, parked, ever, freed-busy, idle-stays, pushAll, answers, Holds, Exchange}
 use Rattle.serial.specs.declared.slots.Event.the-variants.{Drive, Pause}
@@ -42,7 +42,7 @@ module _ (b h : ℕ) (l : 0 < b) where
       let x′ = shifted 0 (bitOf b (front vs) 0) (front vs) 0 in
       slot-of (sm false b h) (ss false b h) (idle (holding (w ∷ ws) q vs r)) (opened w ws q) (begunAt b w (front vs) (holding ws q (rest vs) r) .m) (begunAt b w (front vs) (holding ws q (rest vs) r) .s) (begunAt b w (front vs) (holding ws q (rest vs) r) .s)
       (begin-acts false b h w ws q false)
-      (onward-in (sm false b h) 0 (loaded w) ws q (inFrame false false) (omega arith))
+      (next-in (sm false b h) 0 (loaded w) ws q (inFrame false false) (omega arith))
       (slave-by (ss false b h) (wire hidden) (wire (inFrame false false)) (idle (holding (w ∷ ws) q vs r) .s) (begun (chosen false (shifted 0 false 0 0)) x′) (chosen true x′) (shown (bitOf b (front vs) 0)) refl (in-word false b h x′ l) refl)
       (calm false b h (rest vs) r true x′ false false false (in-word false b h x′ l)) refl
 
@@ -56,7 +56,7 @@ module _ (b h : ℕ) (l : 0 < b) where
       (slot-of (sm false b h) (ss false b h) (begunAt b w v k) (record { tx = k .mtx; rx = k .mrx; engine = sending 1 x; lines = inFrame false (bitOf b w 0) })
       (record { tx = k .mtx; rx = k .mrx; engine = sending 2 x; lines = inFrame false (bitOf b w 0) }) (begunAt b w v k .s) (begunAt b w v k .s)
       (acted-by (sm false b h) 1 (loaded w) (k .mtx) (k .mrx) _ _ (bitOf b v 0 && true) (Drive 0) (noWord (sending 1 x)) (motorola-drive false b 1 0 refl l) refl (lines-at false b h 1 x false (levels-drive false b 1 0 refl l)))
-      (onward-in (sm false b h) 1 x (k .mtx) (k .mrx) _ (omega arith))
+      (next-in (sm false b h) 1 x (k .mtx) (k .mrx) _ (omega arith))
       (calm false b h (k .stx) (k .srx) true x′ false false (bitOf b w 0) (in-word false b h x′ l))
       (calm false b h (k .stx) (k .srx) true x′ false (bitOf b w 0) (bitOf b w 0) (in-word false b h x′ l)) refl)
 
@@ -68,7 +68,7 @@ hold-slot b h w v k c n e =
     let x′ = shifted (c + 1) (bitOf b v c) v (cut b w) in
     slot-of (sm false b h) (ss false b h) (filledAt b w v k c true n) (filledAt b w v k c false n .m) (filledAt b w v k c false (n + 1) .m) (filledAt b w v k c false n .s) (filledAt b w v k c false n .s)
     (acted-by (sm false b h) n x (k .mtx) (k .mrx) _ _ (bitOf b v c && true) Pause (noWord (sending n x)) (motorola-last false b n e) refl (lines-at false b h n x false (levels-last false b n e)))
-    (onward-in (sm false b h) n x (k .mtx) (k .mrx) _ (omega arith))
+    (next-in (sm false b h) n x (k .mtx) (k .mrx) _ (omega arith))
     (slave-by (ss false b h) (wire (inFrame true (bitOf b w c))) (wire (inFrame false (bitOf b w c))) (filledAt b w v k c true n .s) (noWord (chosen false x′)) (chosen false x′) (shown (bitOf b v c)) refl (ended false b h x′) refl)
     (calm false b h (k .stx) (k .srx) false x′ false (bitOf b w c) (bitOf b w c) (ended false b h x′)) refl
 

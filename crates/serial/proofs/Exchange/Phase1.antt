@@ -18,9 +18,9 @@ use Rattle.serial.specs.Pair.{wire}
 use Rattle.serial.proofs.Exchange.Trace.{Trace, none, more, iterate, trace-count, trace-then, trace-end}
 use Rattle.serial.proofs.Exchange.Top.{top-zero}
 use Rattle.serial.proofs.Exchange.Core.{Receiver, Side, push, slaveSide, coreCycle, busy, waits}
-use Rattle.serial.proofs.Exchange.Settle.{Two, Live, Settled, rested, slotStep}
+use Rattle.serial.proofs.Exchange.Settle.{Two, Settled, rested, slotStep}
 use Rattle.serial.proofs.Exchange.Events.{motorola-drive, motorola-last, levels-drive, levels-last}
-use Rattle.serial.proofs.Exchange.Moves.{Queues, inFrame, shown, hidden, sending, shifted, acted-by, onward-in, slave-by, Slot, slot-of, Going, going}
+use Rattle.serial.proofs.Exchange.Moves.{Queues, inFrame, shown, hidden, sending, shifted, acted-by, next-in, slave-by, Slot, slot-of, Going, going}
 use Rattle.serial.proofs.Exchange.Motorola.{sm, ss, step, chosen, drivenAt, filledAt, received, lines-at, in-word, calm, ended, word-run}
 use Rattle.serial.proofs.Exchange.Ends.{front, idle, holding, opened, begin-acts, waits-cons, ever, freed-busy, idle-stays, pushAll, answers, Holds, Exchange}
 use Rattle.serial.specs.declared.engine.Shift.{Shift}
@@ -47,7 +47,7 @@ module _ (b h : ℕ) (l : 0 < b) where
   take-slot w ws q vs r =
       slot-of (sm true b h) (ss true b h) (idle (holding (w ∷ ws) q vs r)) (opened w ws q) (selectedAt w (holding ws q vs r) .m) (selectedAt w (holding ws q vs r) .s) (selectedAt w (holding ws q vs r) .s)
       (begin-acts true b h w ws q false)
-      (onward-in (sm true b h) 0 (loaded w) ws q (inFrame false false) (omega arith))
+      (next-in (sm true b h) 0 (loaded w) ws q (inFrame false false) (omega arith))
       (slave-by (ss true b h) (wire hidden) (wire (inFrame false false)) (idle (holding (w ∷ ws) q vs r) .s) (noWord (chosen false clearShift)) (chosen false clearShift) (shown false) refl (ended true b h clearShift) refl)
       (calm true b h vs r false clearShift false false false (ended true b h clearShift)) refl
 
@@ -63,7 +63,7 @@ module _ (b h : ℕ) (l : 0 < b) where
       (slot-of (sm true b h) (ss true b h) (selectedAt w (holding ws q vs r)) (record { tx = ws; rx = q; engine = sending 1 x; lines = inFrame true (bitOf b w 0) })
       (record { tx = ws; rx = q; engine = sending 2 x; lines = inFrame true (bitOf b w 0) }) y y
       (acted-by (sm true b h) 1 (loaded w) ws q _ _ false (Drive 0) (noWord (sending 1 x)) (motorola-drive true b 1 0 refl l) refl (lines-at true b h 1 x true (levels-drive true b 1 0 refl l)))
-      (onward-in (sm true b h) 1 x ws q _ (omega arith))
+      (next-in (sm true b h) 1 x ws q _ (omega arith))
       (slave-by (ss true b h) _ _ (selectedAt w (holding ws q vs r) .s) (begun (chosen false clearShift) x′) (chosen true x′) (shown (bitOf b (front vs) 0)) (slave-takes b h clearShift false (bitOf b w 0) (front vs)) (in-word true b h x′ l) refl)
       (calm true b h (rest vs) r true x′ true (bitOf b w 0) (bitOf b w 0) (in-word true b h x′ l)) refl)
 
@@ -83,7 +83,7 @@ module _ (b h : ℕ) (l : 0 < b) where
       (acted-by (sm true b h) n x0 (u ∷ ws) q _ _ (bitOf b v c && true) (Chain (slots 1)) (begun (sending 1 x0) x) (motorola-last true b n e)
       (ap (λ (t : Bool). pick t (begun (sending 1 x0) x) (noWord (sending n x0))) (waits-cons u ws))
       (lines-at true b h 1 x true (levels-drive true b 1 0 refl l)))
-      (onward-in (sm true b h) 1 x ws q _ (omega arith))
+      (next-in (sm true b h) 1 x ws q _ (omega arith))
       (slave-by (ss true b h) _ _ (filledAt b w v (holding (u ∷ ws) q vs r) c false n .s) (begun (chosen false (shifted (c + 1) (bitOf b v c) v (cut b w))) x′) (chosen true x′) (shown (bitOf b (front vs) 0))
       (slave-takes b h (shifted (c + 1) (bitOf b v c) v (cut b w)) (bitOf b w c) (bitOf b u 0) (front vs)) (in-word true b h x′ l) refl)
       (calm true b h (rest vs) r true x′ true (bitOf b u 0) (bitOf b u 0) (in-word true b h x′ l)) refl)
@@ -99,7 +99,7 @@ hold-slot b h w v q vs r c n e =
     let still-there = calm true b h vs r false x′ false (bitOf b w c) (bitOf b w c) (ended true b h x′) in
     slot-of (sm true b h) (ss true b h) (filledAt b w v k c false n) (filledAt b w v k c false n .m) (filledAt b w v k c false (n + 1) .m) (filledAt b w v k c false n .s) (filledAt b w v k c false n .s)
     (acted-by (sm true b h) n x [] q _ _ (bitOf b v c && true) (Chain (slots 1)) (noWord (sending n x)) (motorola-last true b n e) refl (lines-at true b h n x false (levels-last true b n e)))
-    (onward-in (sm true b h) n x [] q _ (omega arith))
+    (next-in (sm true b h) n x [] q _ (omega arith))
     still-there still-there refl
 
 abbrev lastOf : ℕ → ℕ → ℕ → List ℕ → Receiver → List ℕ → Receiver → Two
