@@ -4,6 +4,7 @@ use mathlib.Core.Path.{_≡_, refl, sym, ap, _∙_, subst}
 use mathlib.Core.Bool.{Bool, true, false, not, _&&_, _||_, true≢false}
 use mathlib.Core.List.{List, [], _∷_, _++_}
 use native.Mathlib.Omega.{arith}
+use native.Mathlib.Nat.{add-mul, le-refl}
 use lib.Dec.{ltb, eqb}
 use lib.ListN.{length, length-append, replicate, length-replicate}
 use Rattle.registers.specs.Choose.{pick}
@@ -234,6 +235,18 @@ after-solo s d k (p ∷ ps) = after-solo s (cycleOf d p) (runs-cycle s d p k) ps
 abbrev pub busyCycles : Settings → ℕ → Cycles
 busyCycles s n = busyFor (s .format) (s .phase) (s .bits) (s .divisor) n
 
+more-slots : (a b h : ℕ) → a + 2 ≡ b → 0 < h → a * h + 1 ≤ b * h
+more-slots a b h e k = let q : (a + 2) * h ≡ a * h + 2 * h = add-mul a 2 h in subst (λ (c : ℕ). a * h + 1 ≤ c * h) e (omega arith)
+
+bound-on : (s : Settings) → 0 < s .divisor .0 → (f : Format) (phase : Bool) (n : ℕ) → busyFor f phase (s .bits) (s .divisor) n .0 ≤ cyclesOf (slotTotal (fixed f phase s) n) (s .divisor) .0
+unfolding slotTotal cyclesOf
+bound-on s h f phase zero = omega arith
+bound-on s h Motorola true (suc n) = more-slots _ _ (s .divisor .0) (omega arith) h
+bound-on s h Motorola false (suc n) = more-slots _ _ (s .divisor .0) (omega arith) h
+bound-on s h Ti phase (suc n) = le-refl _
+bound-on s h Microwire phase (suc n) = more-slots _ _ (s .divisor .0) (omega arith) h
+bound-on s h Reserved phase (suc n) = omega arith
+
 -- BSY after a cycle for each input: 1 before that many cycles, 0 from then on.
 abbrev pub busyAfter : DeviceModel → List Pins → Bool
 busyAfter d ps = busyDevice (after d ps)
@@ -274,3 +287,8 @@ module _ (s : Settings) (d : DeviceModel) (k : Fresh s d) where
           let q : length ps ≡ suc (r .last) + (length ps - suc (r .last)) = omega (arith, r .next, l) in
           busy-is ps (w ∷ ws) e ∙ ap (λ (n : ℕ). busy (run s n x)) q ∙ ap busy (iterate-add (cycle s) (suc (r .last)) (length ps - suc (r .last)) x)
           ∙ run-free s (length ps - suc (r .last)) (run s (suc (r .last)) x) (r .free)
+
+  -- no later than the load's last slot
+  pub busy-bound : (n : ℕ) → busyCycles s n .0 ≤ cyclesOf (slotTotal s n) (s .divisor) .0
+  busy-bound n =
+      subst (λ (u : Settings). busyCycles s n .0 ≤ cyclesOf (slotTotal u n) (s .divisor) .0) (fixed-own s (k .master) (k .enabled)) (bound-on s (k .divisor) (s .format) (s .phase) n)

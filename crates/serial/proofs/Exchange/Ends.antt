@@ -1,32 +1,31 @@
 -- Motorola frames: their beginning and their end, as far as both phases share them; and what a format has to give.
-use Prim.Native.Nat.{ℕ, zero, suc, _+_, _-_, _*_, _≤_, _<_}
-use mathlib.Core.Path.{_≡_, refl, sym, ap, ap₂, _∙_, subst}
+use Prim.Native.Nat.{ℕ, _+_, _*_, _≤_, _<_}
+use mathlib.Core.Path.{_≡_, refl, sym, ap, _∙_, subst}
 use mathlib.Core.Bool.{Bool, true, false, not, _&&_}
 use mathlib.Core.List.{List, [], _∷_, map}
 use native.Mathlib.Omega.{arith}
-use lib.Dec.{ltb, leb, eqb, eqb·suc-zero}
+use lib.Dec.{eqb·suc-zero}
 use lib.ListN.{length, getD}
-use borrow.Author.Tests.{eq-eqb, ne-eqb, lt-ltb, le-ltb}
+use borrow.Author.Tests.{ne-eqb, lt-ltb, le-ltb}
 use Rattle.registers.specs.Choose.{pick}
 use Rattle.registers.specs.Time.{cycles, slots}
 use Rattle.registers.specs.Transfer.{rest}
-use Rattle.registers.specs.declared.settings.Format.the-variants.{Motorola}
 use Rattle.registers.specs.declared.settings.Settings.{Settings}
 use Rattle.serial.specs.Bits.{bitOf, cut}
 use Rattle.serial.specs.Engine.{cleared, clearShift, noWord, loaded}
-use Rattle.serial.specs.Slots.{eventOf, motorolaEvent, lastSlot, levelsOf}
-use Rattle.serial.specs.Lines.{masterLines, slaveLines, frameLines}
+use Rattle.serial.specs.Slots.{eventOf, motorolaEvent, lastSlot}
+use Rattle.serial.specs.Lines.{masterLines, slaveLines}
 use Rattle.serial.specs.Master.{act, masterStep, masterEnd, acting, resting, dataBit}
-use Rattle.serial.specs.Slave.{slaveStep, slaveEnd, motorolaSlave, motorolaSelect, motorolaEdges, captureEdge, driveEdge, motorolaClock}
+use Rattle.serial.specs.Slave.{slaveStep, slaveEnd, motorolaSlave}
 use Rattle.serial.specs.Pair.{wire}
-use Rattle.serial.proofs.Exchange.Trace.{Trace, none, more, iterate, trace-ever, trace-run}
-use Rattle.serial.proofs.Exchange.Core.{Receiver, Side, Pair, plain, push, moved, waits, acted, masterSide, slaveSide, coreCycle, busy}
+use Rattle.serial.proofs.Exchange.Trace.{Trace, none, more, iterate, trace-ever}
+use Rattle.serial.proofs.Exchange.Core.{Receiver, Side, Pair, push, moved, waits, acted, masterSide, slaveSide, coreCycle}
 use Rattle.serial.proofs.WithinSlot.{Live, nextSlot}
-use Rattle.serial.proofs.Exchange.Settle.{Two, slotStep, next, rested, Meets, slots-trace, Lawful, Settled, side-first}
+use Rattle.serial.proofs.Exchange.Settle.{Two, slotStep, rested, slots-trace, Settled}
 use Rattle.serial.proofs.Exchange.Quiet.{lawful-motorola}
 use Rattle.serial.proofs.Exchange.Events.{motorola-release, levels-first}
-use Rattle.serial.proofs.Exchange.Moves.{Queues, inFrame, shown, hidden, sending, shifted, acted-by, slave-by, Slot, slot-of, Going}
-use Rattle.serial.proofs.Exchange.Motorola.{sm, ss, chosen, filledAt, lines-at}
+use Rattle.serial.proofs.Exchange.Moves.{Queues, inFrame, hidden, sending, shifted, acted-by, slave-by, Slot, slot-of, LiveSlot}
+use Rattle.serial.proofs.Exchange.Motorola.{sm, ss, filledAt, lines-at}
 use Rattle.serial.specs.declared.engine.Engine.{Engine}
 use Rattle.serial.specs.declared.engine.Step.{Step}
 use Rattle.serial.specs.declared.lines.Lines.{Lines}
@@ -122,15 +121,6 @@ ever phase b h w v c q vs r l z i =
     (idle-stays phase b h q vs r)
     i
 
--- the release's first cycle ends BSY
-pub freed-busy : (phase : Bool) (b h w v c : ℕ) (q : Receiver) (vs : List ℕ) (r : Receiver) → 1 < h
-    → busy (coreCycle (sm phase b h) (ss phase b h) (rested (filledAt b w v (holding [] q vs r) c false (2 * b + 2))) .m) ≡ false
-unfolding coreCycle wire
-freed-busy phase b h w v c q vs r l =
-    let one = release-slot phase b h (holding [] q vs r) w v c (2 * b + 2) refl in
-    ap busy (side-first (sm phase b h) (filledAt b w v (holding [] q vs r) c false (2 * b + 2) .m) (bitOf b v c && true) (subst (λ (x : Side). Live (x .engine)) (sym (one .acts)) (ne-eqb (2 * b + 2) 0 (omega arith))) l)
-    ∙ ap busy (one .acts)
-
 -- What a format gives -------------------------------------------------------------------------------------------------
 
 -- the receive queues after a load of ws against vs, oldest first
@@ -151,18 +141,15 @@ starts i k =
       s = record { tx = k .stx; rx = k .srx; engine = cleared; lines = hidden };
     }
 
--- `slots n`: as many as one word and n more keep the master busy; `quits`: so many cycles later BSY is 0.
-pub record Exchange (sm ss : Settings) (b : ℕ) (i : Lines) (slots : ℕ → ℕ) (quits : ℕ) : Type 0 where
+-- `slots n`: as many as one word and n more take to be received.
+pub record Exchange (sm ss : Settings) (b : ℕ) (i : Lines) (slots : ℕ → ℕ) : Type 0 where
   -- the state after these slots
   pub last : ℕ → List ℕ → Receiver → List ℕ → Receiver → Two
   pub settled : (k : Queues) → Settled sm ss (starts i k)
   pub holds : (k : Queues) → Holds (k .mrx) (k .srx) (rested (starts i k))
-  pub run : (w : ℕ) (ws : List ℕ) (q : Receiver) (vs : List ℕ) (r : Receiver) → Trace (Going sm ss) (slotStep sm ss) (slots (length ws)) (starts i (holding (w ∷ ws) q vs r)) (last w ws q vs r)
-  pub hold : (w : ℕ) (ws : List ℕ) (q : Receiver) (vs : List ℕ) (r : Receiver) (n : ℕ) → n < quits → busy (iterate n (coreCycle sm ss) (rested (last w ws q vs r)) .m) ≡ true
-  pub free : (w : ℕ) (ws : List ℕ) (q : Receiver) (vs : List ℕ) (r : Receiver) → busy (iterate quits (coreCycle sm ss) (rested (last w ws q vs r)) .m) ≡ false
+  pub run : (w : ℕ) (ws : List ℕ) (q : Receiver) (vs : List ℕ) (r : Receiver) → Trace (LiveSlot sm ss) (slotStep sm ss) (slots (length ws)) (starts i (holding (w ∷ ws) q vs r)) (last w ws q vs r)
   -- and the receive queues stay from there on
   pub ever : (w : ℕ) (ws : List ℕ) (q : Receiver) (vs : List ℕ) (r : Receiver) (n : ℕ)
       → Holds (pushAll (map (cut b) (answers (w ∷ ws) vs)) q) (pushAll (map (cut b) (w ∷ ws)) r) (iterate n (coreCycle sm ss) (rested (last w ws q vs r)))
   -- with nothing to send nothing happens
   pub rest : (q : Receiver) (vs : List ℕ) (r : Receiver) → coreCycle sm ss (rested (starts i (holding [] q vs r))) ≡ rested (starts i (holding [] q vs r))
-  pub unbusy : (q : Receiver) (vs : List ℕ) (r : Receiver) → busy (starts i (holding [] q vs r) .m) ≡ false

@@ -1,13 +1,11 @@
 -- The parts of a slot's step, one law each: the master's event, its lines, a capture, the slave's quiet cycle.
-use Prim.Native.Nat.{ℕ, suc, _+_, _*_, _≤_, _<_}
-use mathlib.Core.Path.{_≡_, refl, sym, ap, ap₂, _∙_, subst}
-use mathlib.Core.Bool.{Bool, true, false, not, _&&_}
+use Prim.Native.Nat.{ℕ, suc, _+_, _<_}
+use mathlib.Core.Path.{_≡_, sym, ap, ap₂, _∙_, subst}
+use mathlib.Core.Bool.{Bool, true, false}
 use mathlib.Core.List.{List}
 use native.Mathlib.Omega.{arith}
-use lib.Dec.{ltb, leb, eqb}
-use lib.ListN.{length, getD}
-use borrow.Author.Tests.{eq-eqb, ne-eqb, lt-ltb, le-ltb, le-leb, lt-leb}
-use Rattle.registers.specs.Choose.{pick}
+use lib.ListN.{getD}
+use borrow.Author.Tests.{eq-eqb, ne-eqb, lt-ltb}
 use Rattle.registers.specs.Time.{cycles, slots}
 use Rattle.registers.specs.declared.settings.Settings.{Settings}
 use Rattle.serial.specs.Bits.{shiftedIn}
@@ -17,11 +15,11 @@ use Rattle.serial.specs.Lines.{masterLines, slaveLines}
 use Rattle.serial.specs.Master.{act, masterStep, acting, dataBit}
 use Rattle.serial.specs.Slave.{slaveStep, slaveEnd}
 use Rattle.serial.specs.Pair.{wire}
-use Rattle.serial.proofs.Exchange.Core.{Receiver, Side, waits, withEngine, moved, acted, slaveSide, push, busy}
+use Rattle.serial.proofs.Exchange.Core.{Receiver, Side, waits, withEngine, moved, acted, slaveSide}
 use Rattle.serial.proofs.WithinSlot.{Live, next-within}
 use Rattle.serial.proofs.Exchange.Settle.{Two, nextSide, slotStep, next}
 use Rattle.serial.proofs.Exchange.Trace.{Trace, more}
-use Rattle.serial.proofs.Exchange.Quiet.{side-after, after}
+use Rattle.serial.proofs.Exchange.Quiet.{side-after}
 use Rattle.serial.specs.declared.engine.Engine.{Engine}
 use Rattle.serial.specs.declared.engine.Shift.{Shift}
 use Rattle.serial.specs.declared.engine.Step.{Step}
@@ -117,13 +115,9 @@ slot-of sm ss t y m s′ s″ p q r z g =
       gets = ap (λ (u : Side). slaveSide ss (wire (t .m .lines)) (wire (u .lines)) (t .s) .rx) p ∙ ap (λ (u : Side). u .rx) r ∙ g;
     }
 
--- a state in which the master is busy and stays so through the slot
-pub record Going (sm ss : Settings) (t : Two) : Type 0 where
-  pub live : Live (next sm ss t .engine)
-  pub now : busy (t .m) ≡ true
-  pub then : busy (next sm ss t) ≡ true
+-- in the slot that begins the master is in a frame, or idle in one of its idle slots
+abbrev pub LiveSlot : Settings → Settings → Two → Type 0
+LiveSlot sm ss t = Live (next sm ss t .engine)
 
-pub going : {sm ss : Settings} {t t′ z : Two} {y : Side} {n : ℕ} → Slot sm ss t y t′ → Live (y .engine) → busy (t .m) ≡ true → busy y ≡ true
-    → Trace (Going sm ss) (slotStep sm ss) n t′ z → Trace (Going sm ss) (slotStep sm ss) (suc n) t z
-going q live now then r =
-    more (record { live = subst (λ (x : Side). Live (x .engine)) (sym (q .acts)) live; now = now; then = ap busy (q .acts) ∙ then }) (q .steps) r
+pub slot-then : {sm ss : Settings} {t t′ z : Two} {y : Side} {n : ℕ} → Slot sm ss t y t′ → Live (y .engine) → Trace (LiveSlot sm ss) (slotStep sm ss) n t′ z → Trace (LiveSlot sm ss) (slotStep sm ss) (suc n) t z
+slot-then q live r = more (subst (λ (x : Side). Live (x .engine)) (sym (q .acts)) live) (q .steps) r

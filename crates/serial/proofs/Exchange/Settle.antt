@@ -37,7 +37,7 @@ module _ (s : Settings) where
   unfolding acted
   acted-elapsed x d = ap (withEngine (acted s (elapsedSide 0 x) d)) (step-elapsed s 0 (x .engine) (waits (x .tx)) (getD (x .tx) 0 0) d)
 
-  pub side-first : (x : Side) (d : Bool) → Live (acted s (elapsedSide 0 x) d .engine) → 1 < s .divisor .0 → masterSide s (elapsedSide 0 x) d ≡ elapsedSide 1 (acted s (elapsedSide 0 x) d)
+  side-first : (x : Side) (d : Bool) → Live (acted s (elapsedSide 0 x) d .engine) → 1 < s .divisor .0 → masterSide s (elapsedSide 0 x) d ≡ elapsedSide 1 (acted s (elapsedSide 0 x) d)
   unfolding masterSide
   side-first x d live l =
       let y = acted s (elapsedSide 0 x) d in
