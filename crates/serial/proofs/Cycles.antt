@@ -1,10 +1,12 @@
--- What a cycle leaves of the control registers, and what it does with SSE clear.
+-- What a cycle leaves of the control registers and of the words to send, and what it does with SSE clear.
+use Prim.Native.Nat.{ℕ}
 use mathlib.Core.Path.{_≡_, refl, ap, _∙_}
-use mathlib.Core.Bool.{false}
+use mathlib.Core.Bool.{Bool, true, false}
+use Rattle.registers.specs.Choose.{pick}
 use Rattle.registers.proofs.Picks.{pick-no, pick-both}
 use Rattle.registers.specs.Model.{Model}
 use Rattle.registers.specs.Settings.{enabledOf, settingsOf}
-use Rattle.registers.specs.Transfer.{takeWord, receiveWord, endCycle}
+use Rattle.registers.specs.Transfer.{rest, takeWord, receiveWord, endCycle}
 use Rattle.registers.specs.declared.settings.Settings.{Settings}
 use Rattle.serial.specs.Engine.{cleared, noWord}
 use Rattle.serial.specs.Master.{resting, masterEnd}
@@ -28,6 +30,17 @@ control-cycle d pins = step-keeps (λ (x : Model). x .control ≡ d .registers .
 pub masks-cycle : (d : DeviceModel) (pins : Pins) → cycleOf d pins .registers .masks ≡ d .registers .masks
 unfolding cycleOf endCycle takeWord receiveWord
 masks-cycle d pins = step-keeps (λ (x : Model). x .masks ≡ d .registers .masks) (d .registers) (deviceStep d pins) (λ x h. h) (λ x h. h) refl
+
+pub step-tx : (m : Model) (t c : Bool) (w : ℕ) (f : Bool) → endCycle (receiveIf (takeIf m t) c w) f .tx ≡ pick t (rest (m .tx)) (m .tx)
+unfolding endCycle receiveIf takeIf receiveWord takeWord
+step-tx m true true w f = refl
+step-tx m true false w f = refl
+step-tx m false true w f = refl
+step-tx m false false w f = refl
+
+pub tx-cycle : (d : DeviceModel) (pins : Pins) → cycleOf d pins .registers .tx ≡ pick (deviceStep d pins .takes) (rest (d .registers .tx)) (d .registers .tx)
+unfolding cycleOf
+tx-cycle d pins = let r = deviceStep d pins in step-tx (d .registers) (r .takes) (r .complete) (r .word) _
 
 -- with SSE clear the engine is clear
 

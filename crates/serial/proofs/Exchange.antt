@@ -12,6 +12,7 @@ pub mod Phase0
 pub mod Phase1
 pub mod Ti
 pub mod Finish
+pub mod Busy
 pub mod Project
 pub mod Lead
 pub mod Enable

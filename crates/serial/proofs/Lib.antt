@@ -4,7 +4,9 @@ pub mod Accesses
 pub mod Status
 pub mod Cycles
 pub mod Soundness
+pub mod Unreceived
 pub mod Inputs
+pub mod WithinSlot
 pub mod Exchange
 pub mod Drawing
 pub mod Recordings

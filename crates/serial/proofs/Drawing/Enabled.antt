@@ -15,7 +15,7 @@ use Rattle.serial.specs.Bits.{cut}
 use Rattle.serial.specs.Slots.{widthOf}
 use Rattle.serial.specs.Lines.{byteOf}
 use Rattle.serial.specs.Cycle.{DeviceModel, recording}
-use Rattle.serial.proofs.Inputs.{Masters}
+use Rattle.serial.proofs.Unreceived.{Masters}
 use Rattle.serial.specs.Access.{engineAfter, writeDevice}
 use Rattle.serial.specs.Sound.{stoppedSound, engineSound, soundDevice}
 use Rattle.serial.proofs.Soundness.{sound-registers, sound-engine, sound-write}

@@ -4,19 +4,19 @@ use mathlib.Core.Path.{_≡_, refl, sym, ap, _∙_, subst}
 use mathlib.Core.Bool.{Bool, true, false, not, _&&_, _||_, true≢false}
 use mathlib.Core.List.{List, [], _∷_, _++_}
 use native.Mathlib.Omega.{arith}
+use native.Mathlib.Nat.{add-mul, le-refl}
 use lib.Dec.{ltb, eqb}
 use lib.ListN.{length, length-append, replicate, length-replicate}
-use borrow.Author.Tests.{lt-ltb}
 use Rattle.registers.specs.Choose.{pick}
-use Rattle.registers.proofs.Picks.{pick-yes}
+use Rattle.registers.proofs.Picks.{pick-both}
 use Rattle.registers.specs.Flags.{busyOf}
-use Rattle.registers.specs.Time.{cycles, slots, cyclesOf}
+use Rattle.registers.specs.Time.{slots, cyclesOf}
 use Rattle.registers.specs.declared.time.Cycles.{Cycles}
 use Rattle.registers.specs.Transfer.{rest}
 use Rattle.registers.specs.declared.settings.Format.{Format}
 use Rattle.registers.specs.declared.settings.Format.the-variants.{Motorola, Ti, Microwire, Reserved}
 use Rattle.registers.specs.declared.settings.Settings.{Settings}
-use Rattle.serial.specs.Engine.{cleared, clearShift, noWord}
+use Rattle.serial.specs.Engine.{clearShift, noWord}
 use Rattle.serial.specs.Slots.{eventOf, lastSlot, levelsOf}
 use Rattle.serial.specs.Lines.{masterLines, idleOn, frameLines}
 use Rattle.serial.specs.Master.{act, resting, acting, dataBit, masterStep, ticked, masterEnd}
@@ -27,8 +27,10 @@ use Rattle.serial.proofs.Exchange.Moves.{sending, shifted}
 use Rattle.serial.proofs.Exchange.Trace.{iterate, iterate-add}
 use Rattle.serial.specs.Drawing.{slotTotal, drawing, stretch}
 use Rattle.serial.proofs.Drawing.Told.{Serves, idle-released, length-stretch, length-drawing}
-use Rattle.serial.proofs.Drawing.Solo.{bare, bareShift, bareStep, Solo, moves, acted, cycle, soloOf, Runs, solo-cycle, runs-cycle, Goes, none, more}
-use Rattle.serial.proofs.Drawing.Slot.{fixed, solo, on, restAt, at, past, Live, Slot, cycle-in, first-cycle, slot-goes, draws-goes, Draws, Over, over, Last, last, Until}
+use Rattle.serial.proofs.Unreceived.{withoutReceived, shiftWithoutReceived, stepWithoutReceived}
+use Rattle.serial.proofs.WithinSlot.{elapsedAt, Live, afterCycles, after-within}
+use Rattle.serial.proofs.Drawing.Solo.{Solo, moves, acted, cycle, soloOf, Runs, solo-cycle, runs-cycle, Goes, none, more}
+use Rattle.serial.proofs.Drawing.Slot.{fixed, solo, on, restAt, Slot, cycle-within, first-cycle, slot-goes, draws-goes, Draws, Over, over, Last, last, Until}
 use Rattle.serial.proofs.Drawing.MotorolaWords.{frames0-until, frames1-until}
 use Rattle.serial.proofs.Drawing.TiWords.{framesTi-until}
 use Rattle.serial.proofs.Drawing.MicrowireWords.{framesM-until}
@@ -57,23 +59,18 @@ module _ (s : Settings) where
   -- the end of a cycle begins no frame
   end-free : (e : Engine) → e .frame ≡ false → masterEnd s e .frame ≡ false
   unfolding masterEnd ticked
-  end-free e f = go (resting e) (ltb (e .elapsed .0 + 1) (s .divisor .0)) (ltb (e .slot .0) (lastSlot s .0))
-    where
-      go : (t u v : Bool)
-          → pick t e (pick u (record { slot = e .slot; elapsed = cycles (e .elapsed .0 + 1); frame = e .frame; selected = e .selected; mark = e .mark; shift = e .shift })
-          (pick v (record { slot = slots (e .slot .0 + 1); elapsed = cycles 0; frame = e .frame; selected = e .selected; mark = e .mark; shift = e .shift }) cleared)) .frame ≡ false
-      go true u v = f
-      go false true v = f
-      go false false true = f
-      go false false false = refl
+  end-free e f =
+      pick-both (λ (x : Engine). x .frame ≡ false) (resting e) _ _ (λ _. f)
+      (λ _. pick-both (λ (x : Engine). x .frame ≡ false) (ltb (e .elapsed .0 + 1) (s .divisor .0)) _ _ (λ _. f)
+      (λ _. pick-both (λ (x : Engine). x .frame ≡ false) (ltb (e .slot .0) (lastSlot s .0)) _ _ (λ _. f) (λ _. refl)))
 
   -- without a frame and a word nothing happens
-  acted-free : (e : Engine) → e .frame ≡ false → acted s (solo [] e) ≡ solo [] (bare e)
+  acted-free : (e : Engine) → e .frame ≡ false → acted s (solo [] e) ≡ solo [] (withoutReceived e)
   unfolding acted moves masterStep acting
   acted-free e f = go (e .frame) (resting e) f
     where
       go : (t r : Bool) → t ≡ false
-          → _≡_ {A = Solo} (record { tx = pick (bareStep (pick ((t && eqb (e .elapsed .0) 0) || (r && false)) (act s e false 0 (dataBit s e false) (eventOf s (e .slot))) (noWord e)) .takes) (rest []) []; engine = bareStep (pick ((t && eqb (e .elapsed .0) 0) || (r && false)) (act s e false 0 (dataBit s e false) (eventOf s (e .slot))) (noWord e)) .engine }) (solo [] (bare e))
+          → _≡_ {A = Solo} (record { tx = pick (stepWithoutReceived (pick ((t && eqb (e .elapsed .0) 0) || (r && false)) (act s e false 0 (dataBit s e false) (eventOf s (e .slot))) (noWord e)) .takes) (rest []) []; engine = stepWithoutReceived (pick ((t && eqb (e .elapsed .0) 0) || (r && false)) (act s e false 0 (dataBit s e false) (eventOf s (e .slot))) (noWord e)) .engine }) (solo [] (withoutReceived e))
       go true r k = absurd (true≢false k)
       go false true k = refl
       go false false k = refl
@@ -81,7 +78,7 @@ module _ (s : Settings) where
   rest-free : (e : Engine) → e .frame ≡ false → busy (cycle s (solo [] e)) ≡ false
   unfolding cycle
   rest-free e f =
-      ap (λ (z : Solo). busy (solo (z .tx) (masterEnd s (z .engine)))) (acted-free e f) ∙ ap (λ (t : Bool). t || false) (end-free (bare e) f)
+      ap (λ (z : Solo). busy (solo (z .tx) (masterEnd s (z .engine)))) (acted-free e f) ∙ ap (λ (t : Bool). t || false) (end-free (withoutReceived e) f)
 
   cycle-free : (x : Solo) → busy x ≡ false → busy (cycle s x) ≡ false
   cycle-free x = go (x .tx) (x .engine)
@@ -137,21 +134,20 @@ module _ (s : Settings) where
       go true q = q
       go false q = absurd (true≢false (sym (idle-released (s .format) (s .polarity)) ∙ ap (λ (t : Bool). pick t (frameLines s (levelsOf s (not (eqb (e .shift .captured) 0)) (e .slot)) (e .shift .level)) (idleOn (s .format) (s .polarity)) .released) (sym q) ∙ k))
 
-  -- inside a slot
-  run-in : (j c : ℕ) (tx : List ℕ) (e : Engine) → Live e → c + 1 + j < s .divisor .0 → run j (solo tx (past s (c + 1) (bare e))) ≡ solo tx (at (c + 1 + j) (bare e))
-  run-in zero c tx e live l = ap (solo tx) (pick-yes _ _ (lt-ltb (c + 1) (s .divisor .0) (omega arith)) ∙ ap (λ (i : ℕ). at i (bare e)) (omega arith))
-  run-in (suc j) c tx e live l =
+  run-within : (j c : ℕ) (tx : List ℕ) (e : Engine) → Live e → c + 1 + j < s .divisor .0 → run j (solo tx (afterCycles s (c + 1) (withoutReceived e))) ≡ solo tx (elapsedAt (c + 1 + j) (withoutReceived e))
+  run-within zero c tx e live l = ap (solo tx) (after-within s (c + 1) (withoutReceived e) (omega arith) ∙ ap (λ (i : ℕ). elapsedAt i (withoutReceived e)) (omega arith))
+  run-within (suc j) c tx e live l =
       let q : c + 1 + 1 + j ≡ c + 1 + suc j = omega arith in
-      ap (run j) (ap (cycle s) (ap (solo tx) (pick-yes _ _ (lt-ltb (c + 1) (s .divisor .0) (omega arith)))) ∙ cycle-in s tx e c live)
-      ∙ run-in j (c + 1) tx e live (omega arith)
-      ∙ ap (λ (i : ℕ). solo tx (at i (bare e))) q
+      ap (run j) (ap (cycle s) (ap (solo tx) (after-within s (c + 1) (withoutReceived e) (omega arith))) ∙ cycle-within s tx c e live)
+      ∙ run-within j (c + 1) tx e live (omega arith)
+      ∙ ap (λ (i : ℕ). solo tx (elapsedAt i (withoutReceived e))) q
 
   -- the last cycle of a driven slot begins in the frame
   busy-in : {x y : Solo} {l : Lines} → (k : Slot s x l y) → l .released ≡ false → (j : ℕ) → suc j < s .divisor .0 → busy (run (suc j) x) ≡ true
   busy-in k r j l =
       let z = k .state in
       let f = driven-frame (z .engine) (ap (λ (v : Lines). v .released) (k .lines) ∙ r) in
-      ap busy (ap (run j) (first-cycle s k) ∙ run-in j 0 (z .tx) (z .engine) (k .live) (omega arith))
+      ap busy (ap (run j) (first-cycle s k) ∙ run-within j 0 (z .tx) (z .engine) (k .live) (omega arith))
       ∙ ap (λ (t : Bool). t || not (eqb (length (z .tx)) 0)) f
 
 -- The first BSY 0 of a load ----------------------------------------------------------------------------------------------
@@ -239,24 +235,36 @@ after-solo s d k (p ∷ ps) = after-solo s (cycleOf d p) (runs-cycle s d p k) ps
 abbrev pub busyCycles : Settings → ℕ → Cycles
 busyCycles s n = busyFor (s .format) (s .phase) (s .bits) (s .divisor) n
 
+more-slots : (a b h : ℕ) → a + 2 ≡ b → 0 < h → a * h + 1 ≤ b * h
+more-slots a b h e k = let q : (a + 2) * h ≡ a * h + 2 * h = add-mul a 2 h in subst (λ (c : ℕ). a * h + 1 ≤ c * h) e (omega arith)
+
+bound-on : (s : Settings) → 0 < s .divisor .0 → (f : Format) (phase : Bool) (n : ℕ) → busyFor f phase (s .bits) (s .divisor) n .0 ≤ cyclesOf (slotTotal (fixed f phase s) n) (s .divisor) .0
+unfolding slotTotal cyclesOf
+bound-on s h f phase zero = omega arith
+bound-on s h Motorola true (suc n) = more-slots _ _ (s .divisor .0) (omega arith) h
+bound-on s h Motorola false (suc n) = more-slots _ _ (s .divisor .0) (omega arith) h
+bound-on s h Ti phase (suc n) = le-refl _
+bound-on s h Microwire phase (suc n) = more-slots _ _ (s .divisor .0) (omega arith) h
+bound-on s h Reserved phase (suc n) = omega arith
+
 -- BSY after a cycle for each input: 1 before that many cycles, 0 from then on.
 abbrev pub busyAfter : DeviceModel → List Pins → Bool
 busyAfter d ps = busyDevice (after d ps)
 
 module _ (s : Settings) (d : DeviceModel) (k : Fresh s d) where
-  begins : soloOf d ≡ solo (d .registers .tx) (restAt (bareShift (d .engine .shift)))
+  begins : soloOf d ≡ solo (d .registers .tx) (restAt (shiftWithoutReceived (d .engine .shift)))
   begins = ap (solo (d .registers .tx)) (fresh-engine s d k)
 
-  busy-is : (ps : List Pins) (ws : List ℕ) → d .registers .tx ≡ ws → busyAfter d ps ≡ busy (run s (length ps) (solo ws (restAt (bareShift (d .engine .shift)))))
+  busy-is : (ps : List Pins) (ws : List ℕ) → d .registers .tx ≡ ws → busyAfter d ps ≡ busy (run s (length ps) (solo ws (restAt (shiftWithoutReceived (d .engine .shift)))))
   unfolding busyOf busyDevice
   busy-is ps ws e =
-      ap busy (after-solo s d (record { set = k .set; enabled = k .enabled; master = k .master }) ps ∙ ap (run s (length ps)) (begins ∙ ap (λ (v : List ℕ). solo v (restAt (bareShift (d .engine .shift)))) e))
+      ap busy (after-solo s d (record { set = k .set; enabled = k .enabled; master = k .master }) ps ∙ ap (run s (length ps)) (begins ∙ ap (λ (v : List ℕ). solo v (restAt (shiftWithoutReceived (d .engine .shift)))) e))
 
-  frees : (w : ℕ) (ws : List ℕ) → Frees s (solo (w ∷ ws) (restAt (bareShift (d .engine .shift)))) (busyCycles s (suc (length ws)) .0)
+  frees : (w : ℕ) (ws : List ℕ) → Frees s (solo (w ∷ ws) (restAt (shiftWithoutReceived (d .engine .shift)))) (busyCycles s (suc (length ws)) .0)
   frees w ws =
-      subst (λ (u : Settings). Frees u (solo (w ∷ ws) (restAt (bareShift (d .engine .shift)))) (busyCycles s (suc (length ws)) .0))
+      subst (λ (u : Settings). Frees u (solo (w ∷ ws) (restAt (shiftWithoutReceived (d .engine .shift)))) (busyCycles s (suc (length ws)) .0))
       (fixed-own s (k .master) (k .enabled))
-      (frees-on s (s .format) (s .phase) (k .serves) (omega (arith, k .least)) (k .divisor) (bareShift (d .engine .shift)) w ws
+      (frees-on s (s .format) (s .phase) (k .serves) (omega (arith, k .least)) (k .divisor) (shiftWithoutReceived (d .engine .shift)) w ws
       (length-drawing (fixed (s .format) (s .phase) s) (omega (arith, k .least)) (w ∷ ws)))
 
   pub stays-busy : (ps : List Pins) → length ps < busyCycles s (length (d .registers .tx)) .0 → busyAfter d ps ≡ true
@@ -266,16 +274,21 @@ module _ (s : Settings) (d : DeviceModel) (k : Fresh s d) where
       go [] e l = absurd (omega arith)
       go (w ∷ ws) e l =
           let r = frees w ws in
-          busy-is ps (w ∷ ws) e ∙ busy-before s (r .last) (length ps) (solo (w ∷ ws) (restAt (bareShift (d .engine .shift)))) (r .before) (omega (arith, r .next, l))
+          busy-is ps (w ∷ ws) e ∙ busy-before s (r .last) (length ps) (solo (w ∷ ws) (restAt (shiftWithoutReceived (d .engine .shift)))) (r .before) (omega (arith, r .next, l))
 
   pub gets-free : (ps : List Pins) → busyCycles s (length (d .registers .tx)) .0 ≤ length ps → busyAfter d ps ≡ false
   gets-free ps = go (d .registers .tx) refl
     where
       go : (ws : List ℕ) → d .registers .tx ≡ ws → busyCycles s (length ws) .0 ≤ length ps → busyAfter d ps ≡ false
-      go [] e l = busy-is ps [] e ∙ run-free s (length ps) (solo [] (restAt (bareShift (d .engine .shift)))) refl
+      go [] e l = busy-is ps [] e ∙ run-free s (length ps) (solo [] (restAt (shiftWithoutReceived (d .engine .shift)))) refl
       go (w ∷ ws) e l =
           let r = frees w ws in
-          let x = solo (w ∷ ws) (restAt (bareShift (d .engine .shift))) in
+          let x = solo (w ∷ ws) (restAt (shiftWithoutReceived (d .engine .shift))) in
           let q : length ps ≡ suc (r .last) + (length ps - suc (r .last)) = omega (arith, r .next, l) in
           busy-is ps (w ∷ ws) e ∙ ap (λ (n : ℕ). busy (run s n x)) q ∙ ap busy (iterate-add (cycle s) (suc (r .last)) (length ps - suc (r .last)) x)
           ∙ run-free s (length ps - suc (r .last)) (run s (suc (r .last)) x) (r .free)
+
+  -- no later than the load's last slot
+  pub busy-bound : (n : ℕ) → busyCycles s n .0 ≤ cyclesOf (slotTotal s n) (s .divisor) .0
+  busy-bound n =
+      subst (λ (u : Settings). busyCycles s n .0 ≤ cyclesOf (slotTotal u n) (s .divisor) .0) (fixed-own s (k .master) (k .enabled)) (bound-on s (k .divisor) (s .format) (s .phase) n)

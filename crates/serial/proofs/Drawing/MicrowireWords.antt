@@ -18,7 +18,8 @@ use Rattle.serial.specs.Master.{chainStep}
 use Rattle.serial.proofs.Exchange.Ends.{waits-cons}
 use Rattle.serial.proofs.Exchange.Moves.{sending, shifted}
 use Rattle.serial.specs.Drawing.{low, idle, bitLines, quiet, quiets, chainM, framesM}
-use Rattle.serial.proofs.Drawing.Solo.{Solo, bareStep}
+use Rattle.serial.proofs.Unreceived.{stepWithoutReceived}
+use Rattle.serial.proofs.Drawing.Solo.{Solo}
 use Rattle.serial.proofs.Drawing.Slot.{fixed, solo, on, restAt, Slot, Draws, done, draw, draws-end, draws-same, slot-on, slot-start, capture-move, word-run, Over, over, Until, until-done, until-draw, until-then}
 use Rattle.serial.specs.declared.engine.Shift.{Shift}
 use Rattle.serial.specs.declared.slots.Levels.{Levels}
@@ -178,7 +179,7 @@ module _ (s : Settings) (phase : Bool) where
   chain-slot w u tx =
       slot-on S (2 * b + 18) b false w (u ∷ tx) (Chain (slots 0)) 0 0 (bitOf 8 u 0) u true (low S false (bitOf 8 u 0)) 1
       (microwire-chain b (2 * b + 18) refl)
-      (ap (λ (y : Bool). bareStep (chainStep S (sending (2 * b + 18) (shifted b false w 0)) y u (slots 0))) (waits-cons u tx))
+      (ap (λ (y : Bool). stepWithoutReceived (chainStep S (sending (2 * b + 18) (shifted b false w 0)) y u (slots 0))) (waits-cons u tx))
       (lines-at 0 0 (bitOf 8 u 0) u _ refl) (omega arith) refl
 
   chainM-until : (x : Solo) (w : ℕ) (ws : List ℕ) → Slot S x (low S false (bitOf 8 w 0)) (on 1 0 (bitOf 8 w 0) w ws) → Until S (Over S) (chainM S (w ∷ ws)) x

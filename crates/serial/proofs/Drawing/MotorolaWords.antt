@@ -16,7 +16,8 @@ use Rattle.serial.proofs.Exchange.Ends.{waits-cons}
 use Rattle.serial.proofs.Exchange.Moves.{sending, shifted}
 use Rattle.serial.proofs.Exchange.Events.{motorola-drive, motorola-capture, motorola-last, motorola-release, lowAt, levels-drive, levels-capture, levels-last, levels-first}
 use Rattle.serial.specs.Drawing.{low, idle, bitLines, frame0, frames0, chain1, frames1}
-use Rattle.serial.proofs.Drawing.Solo.{Solo, bareStep}
+use Rattle.serial.proofs.Unreceived.{stepWithoutReceived}
+use Rattle.serial.proofs.Drawing.Solo.{Solo}
 use Rattle.serial.proofs.Drawing.Slot.{fixed, solo, on, restAt, Slot, Draws, done, draw, slot-on, slot-start, slot-release, slot-pause, capture-move, word-run, Over, over, Until, until-done, until-draw, until-then, until-draws}
 use Rattle.serial.specs.declared.engine.Shift.{Shift}
 use Rattle.serial.specs.declared.lines.Lines.{Lines}
@@ -129,7 +130,7 @@ module _ (s : Settings) where
       let t = s .bits in
       slot-on (S s true) (2 * t + 1) t d w (u ∷ tx) (Chain (slots 1)) 1 0 (bitOf t u 0) u true (low (S s true) true (bitOf t u 0)) 2
       (motorola-last true t (2 * t + 1) refl)
-      (ap (λ (y : Bool). bareStep (chainStep (S s true) (sending (2 * t + 1) (shifted t d w 0)) y u (slots 1))) (waits-cons u tx))
+      (ap (λ (y : Bool). stepWithoutReceived (chainStep (S s true) (sending (2 * t + 1) (shifted t d w 0)) y u (slots 1))) (waits-cons u tx))
       (lines-at s true 1 (shifted 0 (bitOf t u 0) u 0) true (levels-drive true t 1 0 refl l)) (omega arith) refl
 
   chain1-until : 1 < s .bits → (x : Solo) (w : ℕ) (ws : List ℕ) → Slot (S s true) x (low (S s true) true (bitOf (s .bits) w 0)) (on 2 0 (bitOf (s .bits) w 0) w ws)

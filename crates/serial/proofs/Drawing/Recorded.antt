@@ -18,7 +18,8 @@ use Rattle.serial.specs.Master.{resting, acting, masterStep, masterEnd}
 use Rattle.serial.specs.Cycle.{DeviceModel, recording}
 use Rattle.serial.specs.Drawing.{slotTotal, idle, drawingOn, drawing, stretch}
 use Rattle.serial.proofs.Drawing.Told.{Serves, bytes-injective, length-stretch, length-drawing}
-use Rattle.serial.proofs.Drawing.Solo.{bare, bareShift, moves, acted, cycle, Goes, none, more, recording-goes}
+use Rattle.serial.proofs.Unreceived.{withoutReceived, shiftWithoutReceived}
+use Rattle.serial.proofs.Drawing.Solo.{moves, acted, cycle, Goes, none, more, recording-goes}
 use Rattle.serial.proofs.Drawing.Slot.{fixed, solo, restAt, Draws, goes-then, draws-goes, over-draws, last-draws, until-draws}
 use Rattle.serial.proofs.Drawing.Window.{window-injective}
 use Rattle.serial.proofs.Drawing.MotorolaWords.{frames0-until, frames1-until}
@@ -76,15 +77,15 @@ load-goes s d k x w ws =
     (fixed-own s (k .master) (k .enabled)) (draws-on s (s .format) (s .phase) (k .serves) (omega (arith, k .least)) x w ws))
 
 -- a fresh master's engine
-pub fresh-engine : (s : Settings) (d : DeviceModel) → Fresh s d → bare (d .engine) ≡ restAt (bareShift (d .engine .shift))
+pub fresh-engine : (s : Settings) (d : DeviceModel) → Fresh s d → withoutReceived (d .engine) ≡ restAt (shiftWithoutReceived (d .engine .shift))
 fresh-engine s d k =
-    let x = bareShift (d .engine .shift) in
+    let x = shiftWithoutReceived (d .engine .shift) in
     ap (λ (n : ℕ). record { slot = slots n; elapsed = d .engine .elapsed; frame = d .engine .frame; selected = false; mark = false; shift = x }) (k .slot)
     ∙ ap (λ (n : ℕ). record { slot = slots 0; elapsed = cycles n; frame = d .engine .frame; selected = false; mark = false; shift = x }) (k .elapsed)
     ∙ ap (λ (f : Bool). record { slot = slots 0; elapsed = cycles 0; frame = f; selected = false; mark = false; shift = x }) (k .frame)
 
 -- with nothing to send a master stays idle
-idle-goes : (s : Settings) (x : Shift) (k : ℕ) → Goes s (replicate k (idle s)) (solo [] (restAt (bareShift x))) (solo [] (restAt (bareShift x)))
+idle-goes : (s : Settings) (x : Shift) (k : ℕ) → Goes s (replicate k (idle s)) (solo [] (restAt (shiftWithoutReceived x))) (solo [] (restAt (shiftWithoutReceived x)))
 unfolding cycle acted moves masterStep acting resting masterEnd masterLines
 idle-goes s x zero = none
 idle-goes s x (suc k) = more refl refl (idle-goes s x k)
@@ -103,7 +104,7 @@ recorded-of s d f (w ∷ ws) e ps k l =
     let ls = stretch (s .divisor .0) (drawing s (w ∷ ws)) in
     recording-goes s d (record { set = f .set; enabled = f .enabled; master = f .master })
     (ap₂ solo e (fresh-engine s d f))
-    (goes-then s (load-goes s d f (bareShift (d .engine .shift)) w ws) (idle-goes s clearShift k))
+    (goes-then s (load-goes s d f (shiftWithoutReceived (d .engine .shift)) w ws) (idle-goes s clearShift k))
     ps
     (omega (
       arith,

@@ -1,28 +1,28 @@
 -- Slots of a master alone: one event, then the same lines for h cycles; and the events' laws that all formats share.
 use Prim.Native.Nat.{ℕ, zero, suc, _+_, _-_, _≤_, _<_}
 use mathlib.Core.Path.{_≡_, refl, sym, ap, _∙_, subst}
-use mathlib.Core.Bool.{Bool, true, false, not, _&&_, and-false}
+use mathlib.Core.Bool.{Bool, true, false}
 use mathlib.Core.List.{List, [], _∷_, _++_}
 use native.Mathlib.Omega.{arith}
-use lib.Dec.{ltb, eqb}
-use lib.ListN.{length, getD, replicate}
-use borrow.Author.Tests.{lt-ltb, le-ltb, ne-eqb}
+use lib.ListN.{getD, replicate}
+use borrow.Author.Tests.{lt-ltb, ne-eqb}
 use Rattle.registers.specs.Choose.{pick}
-use Rattle.registers.proofs.Picks.{pick-yes, pick-no}
 use Rattle.registers.specs.Time.{cycles, slots}
 use Rattle.registers.specs.Transfer.{rest}
 use Rattle.registers.specs.declared.settings.Format.{Format}
 use Rattle.registers.specs.declared.settings.Settings.{Settings}
 use Rattle.serial.specs.Bits.{bitOf}
-use Rattle.serial.specs.Engine.{cleared, clearShift, noWord, capturedOf, captureStep}
+use Rattle.serial.specs.Engine.{clearShift, noWord, capturedOf, captureStep}
 use Rattle.serial.specs.Slots.{eventOf, lastSlot}
 use Rattle.serial.specs.Lines.{masterLines}
-use Rattle.serial.specs.Master.{act, resting, acting, dataBit, masterStep, ticked, masterEnd}
+use Rattle.serial.specs.Master.{act, resting, acting, dataBit, masterStep, masterEnd}
 use Rattle.serial.proofs.Exchange.Core.{waits}
 use Rattle.serial.proofs.Exchange.Ends.{waits-cons}
 use Rattle.serial.proofs.Exchange.Moves.{sending, shifted}
 use Rattle.serial.specs.Drawing.{idle, bitLines, stretch}
-use Rattle.serial.proofs.Drawing.Solo.{bare, bareStep, Solo, moves, acted, cycle, shows, Goes, none, more}
+use Rattle.serial.proofs.Unreceived.{withoutReceived, stepWithoutReceived}
+use Rattle.serial.proofs.WithinSlot.{step-within, elapsedAt, Live, nextSlot, afterCycles, end-elapsed, after-within, after-last, next-within, next-last}
+use Rattle.serial.proofs.Drawing.Solo.{Solo, moves, acted, cycle, shows, Goes, none, more}
 use Rattle.serial.specs.declared.engine.Shift.{Shift}
 use Rattle.serial.specs.declared.engine.Engine.{Engine}
 use Rattle.serial.specs.declared.engine.Step.{Step}
@@ -40,43 +40,21 @@ solo tx e = record { tx = tx; engine = e }
 
 -- A slot is h cycles ---------------------------------------------------------------------------------------------------
 
--- with c cycles of the slot gone
-abbrev pub at : ℕ → Engine → Engine
-at c e = record { slot = e .slot; elapsed = cycles c; frame = e .frame; selected = e .selected; mark = e .mark; shift = e .shift }
-
--- in a frame or in an idle slot
-abbrev pub Live : Engine → Type 0
-Live e = (not (e .frame) && eqb (e .slot .0) 0) ≡ false
-
 module _ (s : Settings) where
-  -- in the next slot
-  unfoldable pub onward : Engine → Engine
-  onward e =
-      pick (ltb (e .slot .0) (lastSlot s .0))
-      (record { slot = slots (e .slot .0 + 1); elapsed = cycles 0; frame = e .frame; selected = e .selected; mark = e .mark; shift = e .shift })
-      cleared
+  acted-within : (tx : List ℕ) (c : ℕ) (e : Engine) → acted s (solo tx (elapsedAt (c + 1) (withoutReceived e))) ≡ solo tx (elapsedAt (c + 1) (withoutReceived e))
+  unfolding acted moves
+  acted-within tx c e =
+      ap (λ (r : Step). solo (pick (r .takes) (rest tx) tx) (withoutReceived (r .engine)))
+      (step-within s (elapsedAt (c + 1) (withoutReceived e)) (waits tx) (getD tx 0 0) false (omega arith))
 
-  -- after c cycles of the slot
-  abbrev pub past : ℕ → Engine → Engine
-  past c e = pick (ltb c (s .divisor .0)) (at c e) (onward e)
-
-  end-slot : (e : Engine) (c : ℕ) → Live e → masterEnd s (at c e) ≡ past (c + 1) e
-  unfolding masterEnd resting ticked onward
-  end-slot e c live = ap (λ (t : Bool). pick (t && eqb c 0) (at c e) (past (c + 1) e)) live
-
-  -- events happen in a slot's first cycle only
-  acted-in : (tx : List ℕ) (e : Engine) (c : ℕ) → acted s (solo tx (at (c + 1) (bare e))) ≡ solo tx (at (c + 1) (bare e))
-  unfolding acted moves masterStep acting resting
-  acted-in tx e c = rw (ne-eqb (c + 1) 0 (omega arith), and-false (e .frame), and-false (not (e .frame) && eqb (e .slot .0) 0))
-
-  pub cycle-in : (tx : List ℕ) (e : Engine) (c : ℕ) → Live e → cycle s (solo tx (at (c + 1) (bare e))) ≡ solo tx (past (c + 1 + 1) (bare e))
+  pub cycle-within : (tx : List ℕ) (c : ℕ) (e : Engine) → Live e → cycle s (solo tx (elapsedAt (c + 1) (withoutReceived e))) ≡ solo tx (afterCycles s (c + 1 + 1) (withoutReceived e))
   unfolding cycle
-  cycle-in tx e c live =
-      ap (λ (z : Solo). solo (z .tx) (masterEnd s (z .engine))) (acted-in tx e c) ∙ ap (solo tx) (end-slot (bare e) (c + 1) live)
+  cycle-within tx c e live =
+      ap (λ (z : Solo). solo (z .tx) (masterEnd s (z .engine))) (acted-within tx c e) ∙ ap (solo tx) (end-elapsed s (c + 1) (withoutReceived e) live)
 
-  shows-in : (tx : List ℕ) (e : Engine) (c : ℕ) → shows s (solo tx (at (c + 1) (bare e))) ≡ masterLines s (bare e)
+  shows-within : (tx : List ℕ) (c : ℕ) (e : Engine) → shows s (solo tx (elapsedAt (c + 1) (withoutReceived e))) ≡ masterLines s (withoutReceived e)
   unfolding masterLines
-  shows-in tx e c = ap (λ (z : Solo). masterLines s (z .engine)) (acted-in tx e c)
+  shows-within tx c e = ap (λ (z : Solo). masterLines s (z .engine)) (acted-within tx c e)
 
   goes-from : {ls : List Lines} {x y z : Solo} → x ≡ y → Goes s ls y z → Goes s ls x z
   goes-from {ls} {z = z} e g = subst (λ (u : Solo). Goes s ls u z) (sym e) g
@@ -85,21 +63,22 @@ module _ (s : Settings) where
   goes-then none h = h
   goes-then (more a b g) h = more a b (goes-then g h)
 
-  tail : (j c : ℕ) (tx : List ℕ) (e : Engine) → Live e → c + 1 + j ≡ s .divisor .0
-      → Goes s (replicate j (masterLines s (bare e))) (solo tx (past (c + 1) (bare e))) (solo tx (onward (bare e)))
-  tail zero c tx e live q = goes-from (ap (solo tx) (pick-no _ _ (le-ltb (c + 1) (s .divisor .0) (omega arith)))) none
-  tail (suc j) c tx e live q =
-      goes-from (ap (solo tx) (pick-yes _ _ (lt-ltb (c + 1) (s .divisor .0) (omega arith))))
-      (more (shows-in tx e c) (cycle-in tx e c live) (tail j (c + 1) tx e live (omega arith)))
+  -- the slot's other cycles
+  rest-goes : (j c : ℕ) (tx : List ℕ) (e : Engine) → Live e → c + 1 + j ≡ s .divisor .0
+      → Goes s (replicate j (masterLines s (withoutReceived e))) (solo tx (afterCycles s (c + 1) (withoutReceived e))) (solo tx (nextSlot s (withoutReceived e)))
+  rest-goes zero c tx e live q = goes-from (ap (solo tx) (after-last s (c + 1) (withoutReceived e) (omega arith))) none
+  rest-goes (suc j) c tx e live q =
+      goes-from (ap (solo tx) (after-within s (c + 1) (withoutReceived e) (omega arith)))
+      (more (shows-within tx c e) (cycle-within tx c e live) (rest-goes j (c + 1) tx e live (omega arith)))
 
   -- A slot: the state after its event, the lines that it shows, the state at the next slot's beginning.
   pub record Slot (x : Solo) (l : Lines) (y : Solo) : Type 0 where
     pub state : Solo
     pub acts : acted s x ≡ state
-    pub begins : state .engine ≡ at 0 (bare (state .engine))
+    pub begins : state .engine ≡ elapsedAt 0 (withoutReceived (state .engine))
     pub lines : masterLines s (state .engine) ≡ l
     pub live : Live (state .engine)
-    pub ends : solo (state .tx) (onward (bare (state .engine))) ≡ y
+    pub ends : solo (state .tx) (nextSlot s (withoutReceived (state .engine))) ≡ y
 
   -- slots in a row
   pub data Draws : List Lines → Solo → Solo → Type 0 where
@@ -116,15 +95,15 @@ module _ (s : Settings) where
   pub draws-same : {ls ks : List Lines} {x y : Solo} → Draws ls x y → ls ≡ ks → Draws ks x y
   draws-same {x = x} {y = y} d e = subst (λ (u : List Lines). Draws u x y) e d
 
-  pub first-cycle : {x y : Solo} {l : Lines} → (k : Slot x l y) → cycle s x ≡ solo (k .state .tx) (past (0 + 1) (bare (k .state .engine)))
+  pub first-cycle : {x y : Solo} {l : Lines} → (k : Slot x l y) → cycle s x ≡ solo (k .state .tx) (afterCycles s (0 + 1) (withoutReceived (k .state .engine)))
   unfolding cycle
   first-cycle k =
       let z = k .state in
       ap (λ (u : Solo). solo (u .tx) (masterEnd s (u .engine))) (k .acts)
       ∙ ap (λ (e : Engine). solo (z .tx) (masterEnd s e)) (k .begins)
-      ∙ ap (solo (z .tx)) (end-slot (bare (z .engine)) 0 (k .live))
+      ∙ ap (solo (z .tx)) (end-elapsed s 0 (withoutReceived (z .engine)) (k .live))
 
-  state-lines : {x y : Solo} {l : Lines} → (k : Slot x l y) → masterLines s (bare (k .state .engine)) ≡ l
+  state-lines : {x y : Solo} {l : Lines} → (k : Slot x l y) → masterLines s (withoutReceived (k .state .engine)) ≡ l
   unfolding masterLines
   state-lines k = k .lines
 
@@ -135,9 +114,9 @@ module _ (s : Settings) where
       let q : suc j ≡ s .divisor .0 = omega arith in
       subst (λ (n : ℕ). Goes s (replicate n l) x y) q
       (more (ap (λ (u : Solo). masterLines s (u .engine)) (k .acts) ∙ k .lines) (first-cycle k)
-      (subst (λ (m : Lines). Goes s (replicate j m) (solo (z .tx) (past (0 + 1) (bare (z .engine)))) y) (state-lines k)
-      (subst (λ (u : Solo). Goes s (replicate j (masterLines s (bare (z .engine)))) (solo (z .tx) (past (0 + 1) (bare (z .engine)))) u) (k .ends)
-      (tail j 0 (z .tx) (z .engine) (k .live) (omega arith)))))
+      (subst (λ (m : Lines). Goes s (replicate j m) (solo (z .tx) (afterCycles s (0 + 1) (withoutReceived (z .engine)))) y) (state-lines k)
+      (subst (λ (u : Solo). Goes s (replicate j (masterLines s (withoutReceived (z .engine)))) (solo (z .tx) (afterCycles s (0 + 1) (withoutReceived (z .engine)))) u) (k .ends)
+      (rest-goes j 0 (z .tx) (z .engine) (k .live) (omega arith)))))
 
   -- slots drawn are cycles shown
   pub draws-goes : {ls : List Lines} {x y : Solo} → 0 < s .divisor .0 → Draws ls x y → Goes s (stretch (s .divisor .0) ls) x y
@@ -163,13 +142,12 @@ abbrev pub parkAt : ℕ → Engine
 parkAt n = record { slot = slots n; elapsed = cycles 0; frame = false; selected = false; mark = false; shift = clearShift }
 
 module _ (s : Settings) where
-  onward-on : (n k c : ℕ) (d : Bool) (w : ℕ) (tx : List ℕ) → n + 1 ≡ k → n < lastSlot s .0 → solo tx (onward s (sending n (shifted c d w 0))) ≡ on k c d w tx
-  unfolding onward
-  onward-on n k c d w tx e l = ap (solo tx) (pick-yes _ _ (lt-ltb n (lastSlot s .0) l)) ∙ ap (λ (i : ℕ). on i c d w tx) e
+  next-on : (n k c : ℕ) (d : Bool) (w : ℕ) (tx : List ℕ) → n + 1 ≡ k → n < lastSlot s .0 → solo tx (nextSlot s (sending n (shifted c d w 0))) ≡ on k c d w tx
+  next-on n k c d w tx e l = ap (solo tx) (next-within s (sending n (shifted c d w 0)) l) ∙ ap (λ (i : ℕ). on i c d w tx) e
 
   -- an event in a frame after which the frame goes on
   pub slot-on : (n c : ℕ) (d : Bool) (w : ℕ) (tx : List ℕ) (v : Event) (m c′ : ℕ) (d′ : Bool) (w′ : ℕ) (t : Bool) (l : Lines) (k : ℕ)
-      → eventOf s (slots n) ≡ v → bareStep (act s (sending n (shifted c d w 0)) (waits tx) (getD tx 0 0) (dataBit s (sending n (shifted c d w 0)) false) v) ≡ move m c′ d′ w′ t
+      → eventOf s (slots n) ≡ v → stepWithoutReceived (act s (sending n (shifted c d w 0)) (waits tx) (getD tx 0 0) (dataBit s (sending n (shifted c d w 0)) false) v) ≡ move m c′ d′ w′ t
       → masterLines s (sending m (shifted c′ d′ w′ 0)) ≡ l → m < lastSlot s .0 → m + 1 ≡ k → Slot s (on n c d w tx) l (on k c′ d′ w′ (pick t (rest tx) tx))
   unfolding acted moves masterStep acting
   slot-on n c d w tx v m c′ d′ w′ t l k e a q b z =
@@ -177,65 +155,65 @@ module _ (s : Settings) where
       record {
         state = on m c′ d′ w′ (pick t (rest tx) tx);
         acts = ap (λ (r : Step). record { tx = pick (r .takes) (rest tx) tx; engine = r .engine })
-            (ap (λ (u : Event). bareStep (act s x (waits tx) (getD tx 0 0) (dataBit s x false) u)) e ∙ a);
+            (ap (λ (u : Event). stepWithoutReceived (act s x (waits tx) (getD tx 0 0) (dataBit s x false) u)) e ∙ a);
         begins = refl;
         lines = q;
         live = refl;
-        ends = onward-on m k c′ d′ w′ (pick t (rest tx) tx) z b;
+        ends = next-on m k c′ d′ w′ (pick t (rest tx) tx) z b;
       }
 
   -- an event in the last slot of a frame that has no idle slot
   pub slot-last : (n c : ℕ) (d : Bool) (w : ℕ) (tx : List ℕ) (v : Event) (c′ : ℕ) (d′ : Bool) (w′ : ℕ) (l : Lines)
-      → eventOf s (slots n) ≡ v → bareStep (act s (sending n (shifted c d w 0)) (waits tx) (getD tx 0 0) (dataBit s (sending n (shifted c d w 0)) false) v) ≡ move n c′ d′ w′ false
+      → eventOf s (slots n) ≡ v → stepWithoutReceived (act s (sending n (shifted c d w 0)) (waits tx) (getD tx 0 0) (dataBit s (sending n (shifted c d w 0)) false) v) ≡ move n c′ d′ w′ false
       → masterLines s (sending n (shifted c′ d′ w′ 0)) ≡ l → n ≡ lastSlot s .0 → Slot s (on n c d w tx) l (solo tx (restAt clearShift))
-  unfolding acted moves masterStep acting onward
+  unfolding acted moves masterStep acting
   slot-last n c d w tx v c′ d′ w′ l e a q b =
       let x = sending n (shifted c d w 0) in
       record {
         state = on n c′ d′ w′ tx;
         acts = ap (λ (r : Step). record { tx = pick (r .takes) (rest tx) tx; engine = r .engine })
-            (ap (λ (u : Event). bareStep (act s x (waits tx) (getD tx 0 0) (dataBit s x false) u)) e ∙ a);
+            (ap (λ (u : Event). stepWithoutReceived (act s x (waits tx) (getD tx 0 0) (dataBit s x false) u)) e ∙ a);
         begins = refl;
         lines = q;
         live = refl;
-        ends = ap (solo tx) (pick-no _ _ (le-ltb n (lastSlot s .0) (omega arith)));
+        ends = ap (solo tx) (next-last s (sending n (shifted c′ d′ w′ 0)) (omega arith));
       }
 
   -- an idle master with a waiting word starts slot 0
   pub slot-start : (x : Shift) (w : ℕ) (tx : List ℕ) (v : Event) (d′ : Bool) (l : Lines)
-      → eventOf s (slots 0) ≡ v → bareStep (act s (restAt x) true w (dataBit s (restAt x) false) v) ≡ move 0 0 d′ w true
+      → eventOf s (slots 0) ≡ v → stepWithoutReceived (act s (restAt x) true w (dataBit s (restAt x) false) v) ≡ move 0 0 d′ w true
       → masterLines s (sending 0 (shifted 0 d′ w 0)) ≡ l → 0 < lastSlot s .0 → Slot s (solo (w ∷ tx) (restAt x)) l (on 1 0 d′ w tx)
   unfolding acted moves masterStep acting resting
   slot-start x w tx v d′ l e a q b =
       record {
         state = on 0 0 d′ w tx;
-        acts = ap (λ (t : Bool). record { tx = pick (bareStep (pick t (act s (restAt x) t w (dataBit s (restAt x) false) (eventOf s (slots 0))) (noWord (restAt x))) .takes) tx (w ∷ tx); engine = bareStep (pick t (act s (restAt x) t w (dataBit s (restAt x) false) (eventOf s (slots 0))) (noWord (restAt x))) .engine }) (waits-cons w tx)
+        acts = ap (λ (t : Bool). record { tx = pick (stepWithoutReceived (pick t (act s (restAt x) t w (dataBit s (restAt x) false) (eventOf s (slots 0))) (noWord (restAt x))) .takes) tx (w ∷ tx); engine = stepWithoutReceived (pick t (act s (restAt x) t w (dataBit s (restAt x) false) (eventOf s (slots 0))) (noWord (restAt x))) .engine }) (waits-cons w tx)
             ∙ ap (λ (r : Step). record { tx = pick (r .takes) tx (w ∷ tx); engine = r .engine })
-            (ap (λ (u : Event). bareStep (act s (restAt x) true w (dataBit s (restAt x) false) u)) e ∙ a);
+            (ap (λ (u : Event). stepWithoutReceived (act s (restAt x) true w (dataBit s (restAt x) false) u)) e ∙ a);
         begins = refl;
         lines = q;
         live = refl;
-        ends = onward-on 0 1 0 d′ w tx refl b;
+        ends = next-on 0 1 0 d′ w tx refl b;
       }
 
   -- the frame is over
   pub slot-release : (n c : ℕ) (d : Bool) (w : ℕ) (tx : List ℕ) (k : ℕ) → eventOf s (slots n) ≡ Release → 0 < n → n < lastSlot s .0 → n + 1 ≡ k → Slot s (on n c d w tx) (idle s) (solo tx (parkAt k))
-  unfolding acted moves masterStep acting masterLines onward
+  unfolding acted moves masterStep acting masterLines
   slot-release n c d w tx k e p b z =
       let x = sending n (shifted c d w 0) in
       record {
         state = solo tx (parkAt n);
         acts = ap (λ (r : Step). record { tx = pick (r .takes) (rest tx) tx; engine = r .engine })
-            (ap (λ (u : Event). bareStep (act s x (waits tx) (getD tx 0 0) (dataBit s x false) u)) e);
+            (ap (λ (u : Event). stepWithoutReceived (act s x (waits tx) (getD tx 0 0) (dataBit s x false) u)) e);
         begins = refl;
         lines = refl;
         live = ne-eqb n 0 (omega arith);
-        ends = ap (solo tx) (pick-yes _ _ (lt-ltb n (lastSlot s .0) b)) ∙ ap (λ (i : ℕ). solo tx (parkAt i)) z;
+        ends = ap (solo tx) (next-within s (parkAt n) b) ∙ ap (λ (i : ℕ). solo tx (parkAt i)) z;
       }
 
   -- the last idle slot
   pub slot-pause : (n : ℕ) (tx : List ℕ) → 0 < n → n ≡ lastSlot s .0 → Slot s (solo tx (parkAt n)) (idle s) (solo tx (restAt clearShift))
-  unfolding acted moves masterStep acting resting masterLines onward
+  unfolding acted moves masterStep acting resting masterLines
   slot-pause n tx p e =
       record {
         state = solo tx (parkAt n);
@@ -243,11 +221,11 @@ module _ (s : Settings) where
         begins = refl;
         lines = refl;
         live = ne-eqb n 0 (omega arith);
-        ends = ap (solo tx) (pick-no _ _ (le-ltb n (lastSlot s .0) (omega arith)));
+        ends = ap (solo tx) (next-last s (parkAt n) (omega arith));
       }
 
   -- a capture
-  pub capture-move : (b : ℕ) (bit : Bool) (n c : ℕ) (d : Bool) (w : ℕ) → c < b → bareStep (captureStep b bit (sending n (shifted c d w 0))) ≡ move n (c + 1) d w false
+  pub capture-move : (b : ℕ) (bit : Bool) (n c : ℕ) (d : Bool) (w : ℕ) → c < b → stepWithoutReceived (captureStep b bit (sending n (shifted c d w 0))) ≡ move n (c + 1) d w false
   unfolding captureStep capturedOf
   capture-move b bit n c d w l = rw (lt-ltb c b l)
 

@@ -18,7 +18,8 @@ use Rattle.serial.proofs.Exchange.Ends.{waits-cons}
 use Rattle.serial.proofs.Exchange.Moves.{sending, shifted}
 use Rattle.serial.proofs.Exchange.Events.{lowAt, ti-drive, ti-capture, ti-last, ti-levels-even, ti-levels-odd}
 use Rattle.serial.specs.Drawing.{low, bitLines, marked, held, joined, framesTi}
-use Rattle.serial.proofs.Drawing.Solo.{Solo, bareStep}
+use Rattle.serial.proofs.Unreceived.{stepWithoutReceived}
+use Rattle.serial.proofs.Drawing.Solo.{Solo}
 use Rattle.serial.proofs.Drawing.Slot.{fixed, solo, on, restAt, Slot, Draws, slot-on, slot-last, slot-start, capture-move, word-run, Last, last, Until, until-done, until-draw, until-then}
 use Rattle.serial.specs.declared.engine.Shift.{Shift}
 use Rattle.serial.specs.declared.slots.Levels.{Levels}
@@ -104,7 +105,7 @@ module _ (s : Settings) (phase : Bool) where
       let y = bitOf b w (b - 1) in
       slot-on S n (b - 1) d w (u ∷ tx) (JoinDrive (b - 1)) 0 (b - 1) y u true (held true y) 1
       (ti-last b n (omega arith) l)
-      (ap (λ (t : Bool). bareStep (joinStep S (sending n (shifted (b - 1) d w 0)) t u (b - 1))) (waits-cons u tx))
+      (ap (λ (t : Bool). stepWithoutReceived (joinStep S (sending n (shifted (b - 1) d w 0)) t u (b - 1))) (waits-cons u tx))
       (lines-at 0 (b - 1) y u (record { clk = true; fss = true; released = false }) (ap (λ (t : Bool). tiLevels (not t) 0) (ne-eqb (b - 1) 0 (omega arith)))) (omega arith) refl
 
   join-capture : 1 < b → (d : Bool) (u : ℕ) (tx : List ℕ) → Slot S (on 1 (b - 1) d u tx) (held false d) (on 2 (b - 1 + 1) d u tx)
@@ -112,7 +113,7 @@ module _ (s : Settings) (phase : Bool) where
   join-capture l d u tx =
       slot-on S 1 (b - 1) d u tx JoinCapture 1 (b - 1 + 1) d u false (held false d) 2
       refl
-      (ap bareStep (pick-no _ _ (ne-eqb (b - 1) 0 (omega arith))) ∙ capture-move S b _ 1 (b - 1) d u (omega arith))
+      (ap stepWithoutReceived (pick-no _ _ (ne-eqb (b - 1) 0 (omega arith))) ∙ capture-move S b _ 1 (b - 1) d u (omega arith))
       (lines-at 1 (b - 1 + 1) d u (record { clk = false; fss = true; released = false }) (ap (λ (t : Bool). tiLevels (not t) 1) (ne-eqb (b - 1 + 1) 0 (omega arith)))) (omega arith) refl
 
   joined-until : 2 < b → (w : ℕ) (ws : List ℕ) (c : ℕ) (d : Bool) → Until S (Last S) (joined S w ws) (on 2 c d w ws)

@@ -1,15 +1,14 @@
 -- The proof of demand 3's first part, put together.
-use Prim.Native.Nat.{ℕ, zero, suc, _+_, _*_, _≤_, _<_}
+use Prim.Native.Nat.{ℕ, zero, suc, _+_, _*_, _≤_}
 use mathlib.Core.Path.{_≡_, refl, sym, ap, ap₂, _∙_, subst}
-use mathlib.Core.Bool.{Bool, true, false, not, _&&_, _||_}
+use mathlib.Core.Bool.{Bool, true, false, _||_}
 use mathlib.Core.List.{List, [], _∷_, _++_, map, append-assoc, append-nil}
 use mathlib.Core.Logic.{_⊎_, inl, inr}
 use native.Mathlib.Omega.{arith}
-use native.Mathlib.Nat.{add-mul, le-refl}
-use lib.Dec.{ltb, eqb}
+use native.Mathlib.Nat.{le-refl}
+use lib.Dec.{ltb}
 use lib.ListN.{length, take, replicate}
-use Rattle.registers.specs.Flags.{busyOf}
-use Rattle.registers.specs.Time.{cycles, slots, divisor, cyclesOf}
+use Rattle.registers.specs.Time.{divisor, cyclesOf}
 use Rattle.registers.specs.Settings.{settingsOf, enabledOf, permittedOf, bitsOf}
 use Rattle.registers.proofs.Soundness.{sound-elim, bits-least, bits-most}
 use Rattle.registers.specs.Access.{writeModel}
@@ -22,29 +21,30 @@ use Rattle.serial.specs.Engine.{cleared, noWord}
 use Rattle.serial.specs.Lines.{idleOn, linesOf, masterLines, slaveLines, differ}
 use Rattle.serial.specs.Slave.{slaveStep, motorolaSlave, tiSlave}
 use Rattle.serial.specs.Cycle.{DeviceModel, deviceStep, stepOf}
-use Rattle.serial.specs.Busy.{busyDevice}
 use Rattle.serial.proofs.Cycles.{control-cycle, step-stopped}
 use Rattle.serial.specs.Access.{writeDevice}
 use Rattle.serial.proofs.Soundness.{sound-registers}
-use Rattle.serial.specs.Drawing.{slotTotal}
 use Rattle.serial.specs.Pair.{wire, PairModel, pairCycle, pairRun}
 use Rattle.serial.proofs.Exchange.Trace.{iterate}
 use Rattle.serial.specs.Bits.{cut}
-use Rattle.serial.proofs.Exchange.Core as Core
-use Rattle.serial.proofs.Exchange.Core.{Receiver, Side, Pair, plain, coreCycle}
+use Rattle.serial.proofs.Drawing.Recorded.{Fresh}
+use Rattle.serial.proofs.Drawing.Enabled.{fresh-sound}
+use Rattle.serial.proofs.Drawing.Free.{busyCycles, busy-bound}
+use Rattle.serial.proofs.Exchange.Core.{Receiver, Pair, plain, coreCycle}
 use Rattle.serial.proofs.Exchange.Settle.{rested, Lawful}
 use Rattle.serial.proofs.Exchange.Quiet.{lawful-motorola, lawful-ti}
 use Rattle.serial.proofs.Exchange.Moves.{hidden}
-use Rattle.serial.proofs.Exchange.Ends.{front, holding, starts, answers, Exchange}
+use Rattle.serial.proofs.Exchange.Ends.{holding, starts, answers, Exchange}
 use Rattle.serial.proofs.Exchange.Phase0 as phase0
 use Rattle.serial.proofs.Exchange.Phase1 as phase1
 use Rattle.serial.proofs.Exchange.Ti as ti-words
-use Rattle.serial.proofs.Exchange.Finish.{kept, busyCycles, stays-busy, gets-free, has-received}
-use Rattle.serial.proofs.Exchange.Project.{Serial, given, turns, turnPins, turnLines, sideOf, coreOf, rxOf, Paired, commutes}
+use Rattle.serial.proofs.Exchange.Busy.{pair-busy, pair-free}
+use Rattle.serial.proofs.Exchange.Finish.{loadCycles, has-received}
+use Rattle.serial.proofs.Exchange.Project.{Serial, given, turns, turnPins, turnLines, coreOf, rxOf, Paired, commutes}
 use Rattle.serial.proofs.Exchange.Project.Serial.{motorola, ti}
 use Rattle.serial.proofs.Exchange.Lead.{Lead, lead-steps, lead-write₁, lead-write₂, engine-on}
 use Rattle.serial.proofs.Exchange.Enable.{switchedOn, settings-on, control-on}
-use Rattle.serial.specs.Demand3.{Which, Step, play, plays, cyclesIn, controlOf, Stays, enables, Start, busy, completed, received, load, held, due, busyFor, Received, Exchanged, slaveOn, masterOn, Demand3}
+use Rattle.serial.specs.Demand3.{Step, plays, cyclesIn, controlOf, Stays, Start, completed, received, load, held, busyFor, Received, Exchanged, slaveOn, masterOn, Demand3}
 use Rattle.serial.specs.Demand3.Which.{master, slave}
 use Rattle.serial.specs.declared.engine.Engine.{Engine}
 use Rattle.serial.specs.declared.lines.Lines.{Lines}
@@ -82,13 +82,7 @@ slotsOf Ti phase b n = 2 * b * suc n + 2
 slotsOf Microwire phase b n = 0
 slotsOf Reserved phase b n = 0
 
-abbrev quitsOf : Format → ℕ
-quitsOf Motorola = 1
-quitsOf Ti = 0
-quitsOf Microwire = 0
-quitsOf Reserved = 0
-
-exchange-of : {f : Format} → Serial f → (phase : Bool) (b h : ℕ) → 4 ≤ b → b ≤ 16 → 6 ≤ h → Exchange (plain f phase b h false) (plain f phase b h true) b (restLines f) (slotsOf f phase b) (quitsOf f)
+exchange-of : {f : Format} → Serial f → (phase : Bool) (b h : ℕ) → 4 ≤ b → b ≤ 16 → 6 ≤ h → Exchange (plain f phase b h false) (plain f phase b h true) b (restLines f) (slotsOf f phase b)
 exchange-of motorola false b h l m k = phase0.exchange b h (omega arith) m k
 exchange-of motorola true b h l m k = phase1.exchange b h (omega arith) m k
 exchange-of ti phase b h l m k = ti-words.exchange phase b h (omega arith) m
@@ -107,31 +101,14 @@ answers-due ws vs = go ws (length ws) vs (omega arith)
     go (w ∷ ws) (suc k) [] l = ap (λ (t : List ℕ). 0 ∷ t) (go ws k [] (omega arith))
     go (w ∷ ws) (suc k) (v ∷ vs) l = ap (λ (t : List ℕ). v ∷ t) (go ws (suc k) vs (omega arith))
 
-figure-of : {f : Format} → Serial f → (phase : Bool) (b h : ℕ) (X : Exchange (plain f phase b h false) (plain f phase b h true) b (restLines f) (slotsOf f phase b) (quitsOf f)) (L : Lawful (plain f phase b h true)) (k : 6 ≤ h) (ws : List ℕ)
-    → busyCycles X L k ws ≡ busyFor f phase b (divisor h) (length ws) .0
+-- a load is received before the master's first BSY 0
+received-busy : {f : Format} (S : Serial f) (phase : Bool) (b h : ℕ) (X : Exchange (plain f phase b h false) (plain f phase b h true) b (restLines f) (slotsOf f phase b)) (L : Lawful (plain f phase b h true)) (k : 6 ≤ h) (ws : List ℕ)
+    → loadCycles X L k ws ≤ busyFor f phase b (divisor h) (length ws) .0
 unfolding cyclesOf
-figure-of motorola false b h X L k [] = refl
-figure-of motorola true b h X L k [] = refl
-figure-of ti phase b h X L k [] = refl
-figure-of motorola false b h X L k (w ∷ ws) = refl
-figure-of motorola true b h X L k (w ∷ ws) = refl
-figure-of ti phase b h X L k (w ∷ ws) = omega arith
-
-more-slots : (n h : ℕ) → 6 ≤ h → n * h + 1 ≤ (n + 2) * h
-more-slots n h k = let e : (n + 2) * h ≡ n * h + 2 * h = add-mul n 2 h in omega arith
-
-figure-bound : {f : Format} → Serial f → (phase p : Bool) (b h : ℕ) (o : Bool) (n : ℕ) → 6 ≤ h → busyFor f phase b (divisor h) n .0 ≤ cyclesOf (slotTotal (given f phase p b h false o) n) (divisor h) .0
-unfolding slotTotal cyclesOf
-figure-bound motorola false p b h o zero k = omega arith
-figure-bound motorola true p b h o zero k = omega arith
-figure-bound ti phase p b h o zero k = omega arith
-figure-bound motorola false p b h o (suc n) k =
-    let e : suc n * (2 * b + 4) ≡ n * (2 * b + 4) + (2 * b + 2) + 2 = omega arith in
-    subst (λ (z : ℕ). (n * (2 * b + 4) + (2 * b + 2)) * h + 1 ≤ z * h) (sym e) (more-slots (n * (2 * b + 4) + (2 * b + 2)) h k)
-figure-bound motorola true p b h o (suc n) k =
-    let e : 2 * b * suc n + 4 ≡ 2 * b * suc n + 2 + 2 = omega arith in
-    subst (λ (z : ℕ). (2 * b * suc n + 2) * h + 1 ≤ z * h) (sym e) (more-slots (2 * b * suc n + 2) h k)
-figure-bound ti phase p b h o (suc n) k = le-refl _
+received-busy S phase b h X L k [] = omega arith
+received-busy motorola false b h X L k (w ∷ ws) = omega arith
+received-busy motorola true b h X L k (w ∷ ws) = omega arith
+received-busy ti phase b h X L k (w ∷ ws) = le-refl _
 
 -- The state at the master's enabling -----------------------------------------------------------------------------------
 
@@ -171,7 +148,7 @@ module _ {f : Format} (S : Serial f) (phase p : Bool) (b h k : ℕ) (o : Bool) (
         h = record { newest = x t; middle = y t; oldest = z t };
       }
 
-  abbrev X : Exchange (plain f phase b h false) (plain f phase b h true) b (restLines f) (slotsOf f phase b) (quitsOf f)
+  abbrev X : Exchange (plain f phase b h false) (plain f phase b h true) b (restLines f) (slotsOf f phase b)
   X = exchange-of S phase b h least most slow
 
   abbrev W : Lawful (plain f phase b h true)
@@ -184,11 +161,14 @@ module _ {f : Format} (S : Serial f) (phase p : Bool) (b h k : ℕ) (o : Bool) (
   run-of i = projected i g [] [] P ∙ ap (iterate i (coreCycle (plain f phase b h false) (plain f phase b h true))) core-start
 
   abbrev until : ℕ
-  until = busyCycles X W slow (load master g)
+  until = busyFor f phase b (divisor h) (length (load master g)) .0
 
-  busy-of : (i : ℕ) (t : Bool) → Core.busy (iterate i (coreCycle (plain f phase b h false) (plain f phase b h true)) start .m) ≡ t → busy master (pairRun i g) ≡ t
-  unfolding busyOf busyDevice
-  busy-of i t e = ap (λ (c : Pair). Core.busy (c .m)) (run-of i) ∙ e
+  fresh : Fresh (settingsOf (controlOf master g)) (g .first)
+  unfolding settingsOf
+  fresh =
+      let e = L .engine₁ (omega arith) in
+      fresh-sound (g .first) (L .sound₁) (ap (λ (s : Settings). s .enabled) (P .master)) (ap (λ (s : Settings). s .slave) (P .master))
+      (record { frame = ap (λ (x : Engine). x .frame) e; slot = ap (λ (x : Engine). x .slot .0) e; elapsed = ap (λ (x : Engine). x .elapsed .0) e })
 
   held-small₁ : length (held master g) ≤ 8
   held-small₁ = sound-elim (g .first .registers) (sound-registers (g .first) (L .sound₁)) .rx
@@ -196,9 +176,12 @@ module _ {f : Format} (S : Serial f) (phase p : Bool) (b h k : ℕ) (o : Bool) (
   held-small₂ : length (held slave g) ≤ 8
   held-small₂ = sound-elim (g .second .registers) (sound-registers (g .second) (L .sound₂)) .rx
 
+  in-time : (j : ℕ) → loadCycles X W slow (load master g) ≤ until + j
+  in-time j = omega (arith, received-busy S phase b h X W slow (load master g))
+
   master-gets : (j : ℕ) → Received b (until + j) master g
   master-gets j =
-      let r = ap (λ (c : Pair). c .m .rx) (run-of (until + j)) ∙ has-received X W slow (load master g) q₁ (load slave g) q₂ j held-small₁ held-small₂ .0 in
+      let r = ap (λ (c : Pair). c .m .rx) (run-of (until + j)) ∙ has-received X W slow (load master g) q₁ (load slave g) q₂ (until + j) (in-time j) held-small₁ held-small₂ .0 in
       let d = ap (map (cut b)) (answers-due (load master g) (load slave g)) in
       record {
         words = ap (λ (x : Receiver). x .log) r ∙ d;
@@ -208,7 +191,7 @@ module _ {f : Format} (S : Serial f) (phase p : Bool) (b h k : ℕ) (o : Bool) (
 
   slave-gets : (j : ℕ) → Received b (until + j) slave g
   slave-gets j =
-      let r = ap (λ (c : Pair). c .s .rx) (run-of (until + j)) ∙ has-received X W slow (load master g) q₁ (load slave g) q₂ j held-small₁ held-small₂ .1 in
+      let r = ap (λ (c : Pair). c .s .rx) (run-of (until + j)) ∙ has-received X W slow (load master g) q₁ (load slave g) q₂ (until + j) (in-time j) held-small₁ held-small₂ .1 in
       record {
         words = ap (λ (x : Receiver). x .log) r;
         queue = ap (λ (x : Receiver). x .held) r;
@@ -217,16 +200,16 @@ module _ {f : Format} (S : Serial f) (phase p : Bool) (b h k : ℕ) (o : Bool) (
 
   pub exchanged-at : Exchanged g
   exchanged-at =
-      let e = figure-of S phase b h X W slow (load master g) in
+      let s = settingsOf (controlOf master g) in
+      let n = length (load master g) in
       record {
-        at = cycles until;
-        figure = ap cycles e ∙ ap (λ (s : Settings). busyFor (s .format) (s .phase) (s .bits) (s .divisor) (length (load master g))) (sym (P .master));
-        bound = subst (λ (s : Settings). until ≤ cyclesOf (slotTotal s (length (load master g))) (s .divisor) .0) (sym (P .master))
-            (subst (λ (x : ℕ). x ≤ cyclesOf (slotTotal (given f phase p b h false o) (length (load master g))) (divisor h) .0) (sym e) (figure-bound S phase p b h o (length (load master g)) slow));
-        busy-before = λ i l. busy-of i true (stays-busy X W slow (load master g) q₁ (load slave g) q₂ i l);
-        free = busy-of until false (gets-free X W slow (load master g) q₁ (load slave g) q₂);
-        master-received = λ j. subst (λ (s : Settings). Received (s .bits) (until + j) master g) (sym (P .master)) (master-gets j);
-        slave-received = λ j. subst (λ (s : Settings). Received (s .bits) (until + j) slave g) (sym (P .master)) (slave-gets j);
+        at = busyCycles s n;
+        figure = refl;
+        bound = busy-bound s (g .first) fresh n;
+        busy-before = pair-busy s g fresh;
+        free = pair-free s g fresh (busyCycles s n .0) (le-refl _);
+        master-received = λ j. subst (λ (u : Settings). Received (u .bits) (busyCycles u n .0 + j) master g) (sym (P .master)) (master-gets j);
+        slave-received = λ j. subst (λ (u : Settings). Received (u .bits) (busyCycles u n .0 + j) slave g) (sym (P .master)) (slave-gets j);
       }
 
 -- The way there --------------------------------------------------------------------------------------------------------

@@ -6,11 +6,9 @@ use lib.Dec.{ltb, eqb}
 use lib.ListN.{length, getD}
 use Rattle.registers.specs.Transfer.{added, rest}
 use Rattle.registers.specs.Choose.{pick}
-use Rattle.registers.specs.Time.{cycles, slots, divisor}
+use Rattle.registers.specs.Time.{divisor}
 use Rattle.registers.specs.declared.settings.Format.{Format}
 use Rattle.registers.specs.declared.settings.Settings.{Settings}
-use Rattle.serial.specs.Engine.{cleared}
-use Rattle.serial.specs.Slots.{lastSlot}
 use Rattle.serial.specs.Lines.{masterLines, slaveLines}
 use Rattle.serial.specs.Master.{masterStep, masterEnd}
 use Rattle.serial.specs.Slave.{slaveStep, slaveEnd}
@@ -81,7 +79,3 @@ pub record Pair : Type 0 where
 unfoldable pub coreCycle : Settings → Settings → Pair → Pair
 coreCycle sm ss p =
     record { m = masterSide sm (p .m) (wire (p .s .lines) .rxd); s = slaveSide ss (p .h .oldest) (p .h .middle) (p .s); h = follow (p .h) (wire (p .m .lines)) }
-
--- BSY
-abbrev pub busy : Side → Bool
-busy x = x .engine .frame || waits (x .tx)

@@ -1,31 +1,31 @@
 -- Motorola frames: their beginning and their end, as far as both phases share them; and what a format has to give.
-use Prim.Native.Nat.{ℕ, zero, suc, _+_, _-_, _*_, _≤_, _<_}
-use mathlib.Core.Path.{_≡_, refl, sym, ap, ap₂, _∙_, subst}
+use Prim.Native.Nat.{ℕ, _+_, _*_, _≤_, _<_}
+use mathlib.Core.Path.{_≡_, refl, sym, ap, _∙_, subst}
 use mathlib.Core.Bool.{Bool, true, false, not, _&&_}
 use mathlib.Core.List.{List, [], _∷_, map}
 use native.Mathlib.Omega.{arith}
-use lib.Dec.{ltb, leb, eqb, eqb·suc-zero}
+use lib.Dec.{eqb·suc-zero}
 use lib.ListN.{length, getD}
-use borrow.Author.Tests.{eq-eqb, ne-eqb, lt-ltb, le-ltb}
+use borrow.Author.Tests.{ne-eqb, lt-ltb, le-ltb}
 use Rattle.registers.specs.Choose.{pick}
 use Rattle.registers.specs.Time.{cycles, slots}
 use Rattle.registers.specs.Transfer.{rest}
-use Rattle.registers.specs.declared.settings.Format.the-variants.{Motorola}
 use Rattle.registers.specs.declared.settings.Settings.{Settings}
 use Rattle.serial.specs.Bits.{bitOf, cut}
 use Rattle.serial.specs.Engine.{cleared, clearShift, noWord, loaded}
-use Rattle.serial.specs.Slots.{eventOf, motorolaEvent, lastSlot, levelsOf}
-use Rattle.serial.specs.Lines.{masterLines, slaveLines, frameLines}
+use Rattle.serial.specs.Slots.{eventOf, motorolaEvent, lastSlot}
+use Rattle.serial.specs.Lines.{masterLines, slaveLines}
 use Rattle.serial.specs.Master.{act, masterStep, masterEnd, acting, resting, dataBit}
-use Rattle.serial.specs.Slave.{slaveStep, slaveEnd, motorolaSlave, motorolaSelect, motorolaEdges, captureEdge, driveEdge, motorolaClock}
+use Rattle.serial.specs.Slave.{slaveStep, slaveEnd, motorolaSlave}
 use Rattle.serial.specs.Pair.{wire}
-use Rattle.serial.proofs.Exchange.Trace.{Trace, none, more, iterate, trace-ever, trace-run}
-use Rattle.serial.proofs.Exchange.Core.{Receiver, Side, Pair, plain, push, moved, waits, acted, masterSide, slaveSide, coreCycle, busy}
-use Rattle.serial.proofs.Exchange.Settle.{Two, at, onward, slotStep, next, Live, rested, Meets, slots-trace, Lawful, Settled, side-first}
+use Rattle.serial.proofs.Exchange.Trace.{Trace, none, more, iterate, trace-ever}
+use Rattle.serial.proofs.Exchange.Core.{Receiver, Side, Pair, push, moved, waits, acted, masterSide, slaveSide, coreCycle}
+use Rattle.serial.proofs.WithinSlot.{Live, nextSlot}
+use Rattle.serial.proofs.Exchange.Settle.{Two, slotStep, rested, slots-trace, Settled}
 use Rattle.serial.proofs.Exchange.Quiet.{lawful-motorola}
 use Rattle.serial.proofs.Exchange.Events.{motorola-release, levels-first}
-use Rattle.serial.proofs.Exchange.Moves.{Queues, inFrame, shown, hidden, sending, shifted, acted-by, slave-by, Slot, slot-of, Going}
-use Rattle.serial.proofs.Exchange.Motorola.{sm, ss, chosen, filledAt, lines-at}
+use Rattle.serial.proofs.Exchange.Moves.{Queues, inFrame, hidden, sending, shifted, acted-by, slave-by, Slot, slot-of, LiveSlot}
+use Rattle.serial.proofs.Exchange.Motorola.{sm, ss, filledAt, lines-at}
 use Rattle.serial.specs.declared.engine.Engine.{Engine}
 use Rattle.serial.specs.declared.engine.Step.{Step}
 use Rattle.serial.specs.declared.lines.Lines.{Lines}
@@ -74,7 +74,7 @@ module _ (phase : Bool) (b h : ℕ) (k : Queues) where
   freed n = record { tx = k .mtx; rx = k .mrx; engine = parked n; lines = hidden }
 
   pub release-slot : (w v c n : ℕ) → n ≡ 2 * b + 2 → Slot (sm phase b h) (ss phase b h) (filledAt b w v k c false n) (freed n) (releasedAt k (n + 1))
-  unfolding eventOf dataBit wire lastSlot onward masterLines slaveLines slaveEnd slaveStep motorolaSlave slaveSide
+  unfolding eventOf dataBit wire lastSlot nextSlot masterLines slaveLines slaveEnd slaveStep motorolaSlave slaveSide
   release-slot w v c n e =
       slot-of (sm phase b h) (ss phase b h) (filledAt b w v k c false n) (freed n) (releasedAt k (n + 1) .m) (idle k .s) (idle k .s)
       (acted-by (sm phase b h) n (shifted (c + 1) (bitOf b w c) w (cut b v)) (k .mtx) (k .mrx) _ _ (bitOf b v c && true) Release (noWord (parked n)) (motorola-release phase b n e) refl refl)
@@ -87,7 +87,7 @@ module _ (phase : Bool) (b h : ℕ) (k : Queues) where
   parked-acts n d l = rw (ne-eqb n 0 (omega arith))
 
   pub pause-slot : (n : ℕ) → n ≡ 2 * b + 3 → Slot (sm phase b h) (ss phase b h) (releasedAt k n) (freed n) (idle k)
-  unfolding wire lastSlot onward slaveLines slaveEnd slaveStep motorolaSlave slaveSide
+  unfolding wire lastSlot nextSlot slaveLines slaveEnd slaveStep motorolaSlave slaveSide
   pause-slot n e =
       slot-of (sm phase b h) (ss phase b h) (releasedAt k n) (freed n) (idle k .m) (idle k .s) (idle k .s)
       (parked-acts n false (omega arith))
@@ -115,20 +115,11 @@ ever phase b h w v c q vs r l z i =
     let two = pause-slot phase b h k (2 * b + 2 + 1) (omega arith) in
     trace-ever
     (slots-trace (sm phase b h) (ss phase b h) QM QS (lawful-motorola phase b h) l z
-    (more (record { live = subst Live (sym (one .acts)) (ne-eqb (2 * b + 2) 0 (omega arith)); before = refl; during = λ j. ap (λ (x : Side). x .rx) (one .acts); slave = refl; sees = one .gets; rests = ap (λ (t : Two). t .s .rx) (one .steps) }) (one .steps)
-    (more (record { live = subst Live (sym (two .acts)) (ne-eqb (2 * b + 2 + 1) 0 (omega arith)); before = refl; during = λ j. ap (λ (x : Side). x .rx) (two .acts); slave = refl; sees = two .gets; rests = ap (λ (t : Two). t .s .rx) (two .steps) }) (two .steps) none)))
+    (more (record { live = subst (λ (x : Side). Live (x .engine)) (sym (one .acts)) (ne-eqb (2 * b + 2) 0 (omega arith)); before = refl; during = λ j. ap (λ (x : Side). x .rx) (one .acts); slave = refl; sees = one .gets; rests = ap (λ (t : Two). t .s .rx) (one .steps) }) (one .steps)
+    (more (record { live = subst (λ (x : Side). Live (x .engine)) (sym (two .acts)) (ne-eqb (2 * b + 2 + 1) 0 (omega arith)); before = refl; during = λ j. ap (λ (x : Side). x .rx) (two .acts); slave = refl; sees = two .gets; rests = ap (λ (t : Two). t .s .rx) (two .steps) }) (two .steps) none)))
     (refl, refl)
     (idle-stays phase b h q vs r)
     i
-
--- the release's first cycle ends BSY
-pub freed-busy : (phase : Bool) (b h w v c : ℕ) (q : Receiver) (vs : List ℕ) (r : Receiver) → 1 < h
-    → busy (coreCycle (sm phase b h) (ss phase b h) (rested (filledAt b w v (holding [] q vs r) c false (2 * b + 2))) .m) ≡ false
-unfolding coreCycle wire
-freed-busy phase b h w v c q vs r l =
-    let one = release-slot phase b h (holding [] q vs r) w v c (2 * b + 2) refl in
-    ap busy (side-first (sm phase b h) (filledAt b w v (holding [] q vs r) c false (2 * b + 2) .m) (bitOf b v c && true) (subst Live (sym (one .acts)) (ne-eqb (2 * b + 2) 0 (omega arith))) l)
-    ∙ ap busy (one .acts)
 
 -- What a format gives -------------------------------------------------------------------------------------------------
 
@@ -150,18 +141,15 @@ starts i k =
       s = record { tx = k .stx; rx = k .srx; engine = cleared; lines = hidden };
     }
 
--- `slots n`: as many as one word and n more keep the master busy; `quits`: so many cycles later BSY is 0.
-pub record Exchange (sm ss : Settings) (b : ℕ) (i : Lines) (slots : ℕ → ℕ) (quits : ℕ) : Type 0 where
+-- `slots n`: as many as one word and n more take to be received.
+pub record Exchange (sm ss : Settings) (b : ℕ) (i : Lines) (slots : ℕ → ℕ) : Type 0 where
   -- the state after these slots
   pub last : ℕ → List ℕ → Receiver → List ℕ → Receiver → Two
   pub settled : (k : Queues) → Settled sm ss (starts i k)
   pub holds : (k : Queues) → Holds (k .mrx) (k .srx) (rested (starts i k))
-  pub run : (w : ℕ) (ws : List ℕ) (q : Receiver) (vs : List ℕ) (r : Receiver) → Trace (Going sm ss) (slotStep sm ss) (slots (length ws)) (starts i (holding (w ∷ ws) q vs r)) (last w ws q vs r)
-  pub hold : (w : ℕ) (ws : List ℕ) (q : Receiver) (vs : List ℕ) (r : Receiver) (n : ℕ) → n < quits → busy (iterate n (coreCycle sm ss) (rested (last w ws q vs r)) .m) ≡ true
-  pub free : (w : ℕ) (ws : List ℕ) (q : Receiver) (vs : List ℕ) (r : Receiver) → busy (iterate quits (coreCycle sm ss) (rested (last w ws q vs r)) .m) ≡ false
+  pub run : (w : ℕ) (ws : List ℕ) (q : Receiver) (vs : List ℕ) (r : Receiver) → Trace (LiveSlot sm ss) (slotStep sm ss) (slots (length ws)) (starts i (holding (w ∷ ws) q vs r)) (last w ws q vs r)
   -- and the receive queues stay from there on
   pub ever : (w : ℕ) (ws : List ℕ) (q : Receiver) (vs : List ℕ) (r : Receiver) (n : ℕ)
       → Holds (pushAll (map (cut b) (answers (w ∷ ws) vs)) q) (pushAll (map (cut b) (w ∷ ws)) r) (iterate n (coreCycle sm ss) (rested (last w ws q vs r)))
   -- with nothing to send nothing happens
   pub rest : (q : Receiver) (vs : List ℕ) (r : Receiver) → coreCycle sm ss (rested (starts i (holding [] q vs r))) ≡ rested (starts i (holding [] q vs r))
-  pub unbusy : (q : Receiver) (vs : List ℕ) (r : Receiver) → busy (starts i (holding [] q vs r) .m) ≡ false

@@ -1,7 +1,7 @@
--- What follows for every format: when the master stops being busy, and what both sides have received from then on.
-use Prim.Native.Nat.{ℕ, zero, suc, _+_, _-_, _*_, _≤_, _<_}
-use mathlib.Core.Path.{_≡_, refl, sym, ap, ap₂, _∙_, subst}
-use mathlib.Core.Bool.{Bool, true, false, not, _||_, or-true, or-false}
+-- What follows for every format: what both sides have received from the load's last slot on.
+use Prim.Native.Nat.{ℕ, _+_, _-_, _*_, _≤_, _<_}
+use mathlib.Core.Path.{_≡_, sym, ap, _∙_}
+use mathlib.Core.Bool.{true, _||_, or-true, or-false}
 use mathlib.Core.List.{List, [], _∷_, _++_, map, append-assoc, append-nil}
 use native.Mathlib.Omega.{arith}
 use native.Mathlib.Decide.{decLt}
@@ -9,14 +9,13 @@ use lib.Dec.{ltb}
 use lib.ListN.{length, take, length-append}
 use lib.Seq.{take-all, take-append-le}
 use borrow.Author.Tests.{lt-ltb, le-ltb}
-use Rattle.registers.specs.Choose.{pick}
 use Rattle.registers.specs.Transfer.{added}
 use Rattle.registers.specs.declared.settings.Settings.{Settings}
-use Rattle.serial.proofs.Exchange.Trace.{Trace, none, more, iterate, iterate-add, iterate-fixed, trace-map, trace-at, trace-run}
+use Rattle.serial.proofs.Exchange.Trace.{iterate, iterate-add, iterate-fixed, trace-map, trace-run}
 use Rattle.serial.specs.Bits.{cut}
-use Rattle.serial.proofs.Exchange.Core.{Receiver, Side, Pair, push, coreCycle, busy}
-use Rattle.serial.proofs.Exchange.Settle.{Two, at, next, slotStep, Lawful, rested, Meets, Both, slots-trace}
-use Rattle.serial.proofs.Exchange.Moves.{Queues, Going}
+use Rattle.serial.proofs.Exchange.Core.{Receiver, Pair, push, coreCycle}
+use Rattle.serial.proofs.Exchange.Settle.{Two, Lawful, rested, Meets, slots-trace}
+use Rattle.serial.proofs.Exchange.Moves.{LiveSlot}
 use Rattle.serial.specs.declared.lines.Lines.{Lines}
 use Rattle.serial.proofs.Exchange.Ends.{holding, starts, pushAll, answers, Holds, Exchange}
 
@@ -52,53 +51,33 @@ pushed-kept (w ∷ ws) q l = go (λ q′ l′. pushed-kept ws q′ l′) (decLt 
 
 -- The end of a load ----------------------------------------------------------------------------------------------------
 
-module _ {sm ss : Settings} {b : ℕ} {i : Lines} {slots : ℕ → ℕ} {quits : ℕ} (X : Exchange sm ss b i slots quits) (L : Lawful ss) (l : 6 ≤ sm .divisor .0) where
+module _ {sm ss : Settings} {b : ℕ} {i : Lines} {slots : ℕ → ℕ} (X : Exchange sm ss b i slots) (L : Lawful ss) (l : 6 ≤ sm .divisor .0) where
   abbrev cycle : Pair → Pair
   cycle = coreCycle sm ss
 
   abbrev begins : List ℕ → Receiver → List ℕ → Receiver → Pair
   begins ws q vs r = rested (starts i (holding ws q vs r))
 
-  -- how many cycles the master is busy
-  abbrev pub busyCycles : List ℕ → ℕ
-  busyCycles [] = 0
-  busyCycles (w ∷ ws) = slots (length ws) * sm .divisor .0 + quits
+  -- the cycles in which a load is received
+  abbrev pub loadCycles : List ℕ → ℕ
+  loadCycles [] = 0
+  loadCycles (w ∷ ws) = slots (length ws) * sm .divisor .0
 
-  meets : (t : Two) → Going sm ss t → Meets sm ss (λ x. busy x ≡ true) (λ x. Unit {0}) t
-  meets t g = record { live = g .live; before = g .now; during = λ i. g .then; slave = tt; sees = tt; rests = tt }
+  meets : (t : Two) → LiveSlot sm ss t → Meets sm ss (λ x. Unit {0}) (λ x. Unit {0}) t
+  meets t live = record { live = live; before = tt; during = λ i. tt; slave = tt; sees = tt; rests = tt }
 
-  cycles-trace : (w : ℕ) (ws : List ℕ) (q : Receiver) (vs : List ℕ) (r : Receiver)
-      → Trace (Both sm ss (λ x. busy x ≡ true) (λ x. Unit {0})) cycle (slots (length ws) * sm .divisor .0) (begins (w ∷ ws) q vs r) (rested (X .last w ws q vs r))
-  cycles-trace w ws q vs r = slots-trace sm ss (λ x. busy x ≡ true) (λ x. Unit {0}) L l (X .settled (holding (w ∷ ws) q vs r)) (trace-map meets (X .run w ws q vs r))
+  load-run : (w : ℕ) (ws : List ℕ) (q : Receiver) (vs : List ℕ) (r : Receiver) → iterate (loadCycles (w ∷ ws)) cycle (begins (w ∷ ws) q vs r) ≡ rested (X .last w ws q vs r)
+  load-run w ws q vs r = trace-run (slots-trace sm ss (λ x. Unit {0}) (λ x. Unit {0}) L l (X .settled (holding (w ∷ ws) q vs r)) (trace-map meets (X .run w ws q vs r)))
 
-  pub stays-busy : (ws : List ℕ) (q : Receiver) (vs : List ℕ) (r : Receiver) (n : ℕ) → n < busyCycles ws → busy (iterate n cycle (begins ws q vs r) .m) ≡ true
-  stays-busy [] q vs r n k = absurd (omega arith)
-  stays-busy (w ∷ ws) q vs r n k = go (decLt n (slots (length ws) * sm .divisor .0))
-    where
-      go : Dec (n < slots (length ws) * sm .divisor .0) → busy (iterate n cycle (begins (w ∷ ws) q vs r) .m) ≡ true
-      go (yes p) = trace-at (cycles-trace w ws q vs r) n p .0
-      go (no p) =
-          let j = n - slots (length ws) * sm .divisor .0 in
-          let e : n ≡ slots (length ws) * sm .divisor .0 + j = omega arith in
-          ap (λ (x : ℕ). busy (iterate x cycle (begins (w ∷ ws) q vs r) .m)) e
-          ∙ ap (λ (p : Pair). busy (p .m)) (iterate-add cycle (slots (length ws) * sm .divisor .0) j (begins (w ∷ ws) q vs r) ∙ ap (iterate j cycle) (trace-run (cycles-trace w ws q vs r)))
-          ∙ X .hold w ws q vs r j (omega arith)
-
-  pub gets-free : (ws : List ℕ) (q : Receiver) (vs : List ℕ) (r : Receiver) → busy (iterate (busyCycles ws) cycle (begins ws q vs r) .m) ≡ false
-  gets-free [] q vs r = X .unbusy q vs r
-  gets-free (w ∷ ws) q vs r =
-      ap (λ (p : Pair). busy (p .m)) (iterate-add cycle (slots (length ws) * sm .divisor .0) (quits) (begins (w ∷ ws) q vs r) ∙ ap (iterate (quits) cycle) (trace-run (cycles-trace w ws q vs r)))
-      ∙ X .free w ws q vs r
-
-  pub has-received : (ws : List ℕ) (q : Receiver) (vs : List ℕ) (r : Receiver) (j : ℕ) → length (q .held) ≤ 8 → length (r .held) ≤ 8
-      → Holds (kept (map (cut b) (answers ws vs)) q) (kept (map (cut b) ws) r) (iterate (busyCycles ws + j) cycle (begins ws q vs r))
-  has-received [] q vs r j p p′ =
-      let e = iterate-fixed cycle (begins [] q vs r) (X .rest q vs r) (0 + j) in
+  pub has-received : (ws : List ℕ) (q : Receiver) (vs : List ℕ) (r : Receiver) (n : ℕ) → loadCycles ws ≤ n → length (q .held) ≤ 8 → length (r .held) ≤ 8
+      → Holds (kept (map (cut b) (answers ws vs)) q) (kept (map (cut b) ws) r) (iterate n cycle (begins ws q vs r))
+  has-received [] q vs r n k p p′ =
+      let e = iterate-fixed cycle (begins [] q vs r) (X .rest q vs r) n in
       (ap (λ (x : Pair). x .m .rx) e ∙ X .holds (holding [] q vs r) .0 ∙ sym (kept-nil q p), ap (λ (x : Pair). x .s .rx) e ∙ X .holds (holding [] q vs r) .1 ∙ sym (kept-nil r p′))
-  has-received (w ∷ ws) q vs r j p p′ =
-      let n = slots (length ws) * sm .divisor .0 in
-      let assoc : n + quits + j ≡ n + (quits + j) = omega arith in
-      let e : iterate (n + quits + j) cycle (begins (w ∷ ws) q vs r) ≡ iterate (quits + j) cycle (rested (X .last w ws q vs r)) =
-      ap (λ (x : ℕ). iterate x cycle (begins (w ∷ ws) q vs r)) assoc ∙ iterate-add cycle n (quits + j) (begins (w ∷ ws) q vs r) ∙ ap (iterate (quits + j) cycle) (trace-run (cycles-trace w ws q vs r)) in
-      let h = X .ever w ws q vs r (quits + j) in
+  has-received (w ∷ ws) q vs r n k p p′ =
+      let j = n - loadCycles (w ∷ ws) in
+      let total : n ≡ loadCycles (w ∷ ws) + j = omega arith in
+      let e : iterate n cycle (begins (w ∷ ws) q vs r) ≡ iterate j cycle (rested (X .last w ws q vs r)) =
+      ap (λ (x : ℕ). iterate x cycle (begins (w ∷ ws) q vs r)) total ∙ iterate-add cycle (loadCycles (w ∷ ws)) j (begins (w ∷ ws) q vs r) ∙ ap (iterate j cycle) (load-run w ws q vs r) in
+      let h = X .ever w ws q vs r j in
       (ap (λ (x : Pair). x .m .rx) e ∙ h .0 ∙ pushed-kept (map (cut b) (answers (w ∷ ws) vs)) q p, ap (λ (x : Pair). x .s .rx) e ∙ h .1 ∙ pushed-kept (map (cut b) (w ∷ ws)) r p′)

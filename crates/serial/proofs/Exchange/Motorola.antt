@@ -1,34 +1,30 @@
 -- Motorola: a word from each side, bit by bit, for both phases at once.
 use Prim.Native.Nat.{ℕ, zero, suc, _+_, _-_, _*_, _≤_, _<_}
-use mathlib.Core.Path.{_≡_, refl, sym, ap, ap₂, _∙_}
+use mathlib.Core.Path.{_≡_, refl, ap, ap₂, _∙_}
 use mathlib.Core.Bool.{Bool, true, false, not, _&&_, and-true}
-use mathlib.Core.List.{List, [], _∷_}
+use mathlib.Core.List.{List}
 use native.Mathlib.Omega.{arith}
-use lib.Dec.{ltb, leb, eqb}
-use lib.ListN.{length, getD}
-use borrow.Author.Tests.{eq-eqb, ne-eqb, lt-ltb, le-ltb, le-leb, lt-leb}
-use Rattle.registers.specs.Choose.{pick}
+use borrow.Author.Tests.{le-leb, lt-leb}
 use Rattle.registers.specs.Time.{cycles, slots}
 use Rattle.registers.specs.declared.settings.Format.the-variants.{Motorola}
 use Rattle.registers.specs.declared.settings.Settings.{Settings}
 use Rattle.serial.specs.Bits.{bitOf, cut, shiftedIn}
-use Rattle.serial.specs.Engine.{cleared, clearShift, withShift, noWord, started, driven, captureStep}
+use Rattle.serial.specs.Engine.{withShift, noWord, driven, captureStep}
 use Rattle.serial.specs.Slots.{eventOf, lastSlot, widthOf, motorolaLevels, levelsOf}
 use Rattle.serial.specs.Lines.{masterLines, slaveLines, frameLines}
-use Rattle.serial.specs.Master.{masterStep, acting, resting, dataBit}
+use Rattle.serial.specs.Master.{dataBit}
 use Rattle.serial.specs.Slave.{slaveStep, slaveEnd, motorolaSlave, motorolaSelect, motorolaEdges, motorolaClock, captureEdge, driveEdge}
 use Rattle.serial.specs.Pair.{wire}
-use Rattle.serial.proofs.Exchange.Trace.{Trace, none, more, trace-count, trace-end, trace-then}
-use Rattle.serial.proofs.Exchange.Top.{top, top-zero, top-next, top-last}
-use Rattle.serial.proofs.Exchange.Core.{Receiver, Side, plain, push, acted, slaveSide, busy}
-use Rattle.serial.proofs.Exchange.Settle.{Two, at, onward, slotStep, next, Live, Settled}
-use Rattle.serial.proofs.Exchange.Events.{motorola-drive, motorola-capture, motorola-last, motorola-release, lowAt, levels-drive, levels-capture, levels-last, levels-first}
+use Rattle.serial.proofs.Exchange.Trace.{Trace, none, trace-count, trace-end, trace-then}
+use Rattle.serial.proofs.Exchange.Top.{top, top-next, top-last}
+use Rattle.serial.proofs.Exchange.Core.{Receiver, Side, plain, push, slaveSide}
+use Rattle.serial.proofs.Exchange.Settle.{Two, slotStep}
+use Rattle.serial.proofs.Exchange.Events.{motorola-drive, motorola-capture, lowAt, levels-drive, levels-capture}
 use Rattle.serial.specs.declared.engine.Engine.{Engine}
 use Rattle.serial.specs.declared.engine.Shift.{Shift}
-use Rattle.serial.specs.declared.lines.Lines.{Lines}
 use Rattle.serial.specs.declared.slots.Levels.{Levels}
-use Rattle.serial.specs.declared.slots.Event.the-variants.{Begin, Drive, Capture, Chain, Release, Pause}
-use Rattle.serial.proofs.Exchange.Moves.{Queues, inFrame, shown, hidden, sending, shifted, slot-parts, acted-by, onward-in, capture-in, completed, capture-last, slave-by, Slot, slot-of, Going, going}
+use Rattle.serial.specs.declared.slots.Event.the-variants.{Drive, Capture}
+use Rattle.serial.proofs.Exchange.Moves.{Queues, inFrame, shown, sending, shifted, acted-by, next-in, capture-in, completed, capture-last, slave-by, Slot, slot-of, LiveSlot, slot-then}
 use Rattle.serial.proofs.Exchange.Quiet.{quiet-low}
 
 -- a slave's engine while it is selected
@@ -112,7 +108,7 @@ module _ (phase : Bool) (b h w v : ℕ) (k : Queues) (m : b ≤ 16) where
       (acted-by (sm phase b h) n (shifted c (bitOf b w c) w (top b v c)) (k .mtx) (k .mrx) _ _ (bitOf b v c && true) Capture (noWord (sending n x)) (motorola-capture phase b n c e (omega arith))
       (capture-in b (bitOf b v c && true) (sending n (shifted c (bitOf b w c) w (top b v c))) l ∙ ap (λ (r : ℕ). noWord (sending n (shifted (c + 1) (bitOf b w c) w r))) (next-bit b v c (omega arith) m))
       (lines-at phase b h n x (not phase) (levels-capture phase b n c e (omega arith))))
-      (onward-in (sm phase b h) n x (k .mtx) (k .mrx) _ (omega arith))
+      (next-in (sm phase b h) n x (k .mtx) (k .mrx) _ (omega arith))
       (slave-by (ss phase b h) _ _ (drivenAt phase b h w v k c n .s) (noWord (chosen true x′)) (chosen true x′) (shown (bitOf b v c))
       (slave-captures phase b h (shifted c (bitOf b v c) v (top b w c)) (bitOf b w c) (bitOf b w c) _
       ∙ capture-in b (bitOf b w c && true) (chosen true (shifted c (bitOf b v c) v (top b w c))) l ∙ ap (λ (r : ℕ). noWord (chosen true (shifted (c + 1) (bitOf b v c) v r))) (next-bit b w c (omega arith) m))
@@ -131,7 +127,7 @@ module _ (phase : Bool) (b h w v : ℕ) (k : Queues) (m : b ≤ 16) where
       slot-of (sm phase b h) (ss phase b h) (capturedAt phase b h w v k c n) (pairRun c n) (drivenAt phase b h w v k (c + 1) (n + 1) .m) (drivenAt phase b h w v k (c + 1) (n + 1) .s) (drivenAt phase b h w v k (c + 1) (n + 1) .s)
       (acted-by (sm phase b h) n (shifted (c + 1) (bitOf b w c) w (top b v (c + 1))) (k .mtx) (k .mrx) _ _ (bitOf b v c && true) (Drive (c + 1)) (noWord (sending n x)) (motorola-drive phase b n (c + 1) e l) refl
       (lines-at phase b h n x phase (levels-drive phase b n (c + 1) e l)))
-      (onward-in (sm phase b h) n x (k .mtx) (k .mrx) _ (omega arith))
+      (next-in (sm phase b h) n x (k .mtx) (k .mrx) _ (omega arith))
       (slave-by (ss phase b h) _ _ (capturedAt phase b h w v k c n .s) (noWord (chosen true x′)) (chosen true x′) (shown (bitOf b v (c + 1)))
       (slave-drives phase b h (shifted (c + 1) (bitOf b v c) v (top b w (c + 1))) (bitOf b w c) (bitOf b w (c + 1)) _)
       (in-word phase b h x′ l) refl)
@@ -139,12 +135,12 @@ module _ (phase : Bool) (b h w v : ℕ) (k : Queues) (m : b ≤ 16) where
 
   -- from bit c on the lines to bit d: j more bits
   bits-run : (j c d n o : ℕ) → c + j ≡ d → n + 2 * j ≡ o → n ≡ 2 * c + 2 → d < b
-      → Trace (Going (sm phase b h) (ss phase b h)) (step phase b h) (2 * j) (drivenAt phase b h w v k c n) (drivenAt phase b h w v k d o)
+      → Trace (LiveSlot (sm phase b h) (ss phase b h)) (step phase b h) (2 * j) (drivenAt phase b h w v k c n) (drivenAt phase b h w v k d o)
   bits-run zero c d n o p q e l = trace-end none (ap₂ (drivenAt phase b h w v k) (omega arith) (omega arith))
   bits-run (suc j) c d n o p q e l =
       trace-count (omega arith)
-      (going (capture-slot c n e (omega arith)) refl refl refl
-      (going (drive-slot c (n + 1) (omega arith) (omega arith)) refl refl refl
+      (slot-then (capture-slot c n e (omega arith)) refl
+      (slot-then (drive-slot c (n + 1) (omega arith) (omega arith)) refl
       (bits-run j (c + 1) d (n + 1 + 1) o (omega arith) (omega arith) (omega arith) l)))
 
 -- Words received on both sides.
@@ -179,7 +175,7 @@ module _ (phase : Bool) (b h w v : ℕ) (k : Queues) (m : b ≤ 16) where
       (completed (sending n (shifted c (bitOf b w c) w (top b v c))) (cut b v)) (motorola-capture phase b n c e (omega arith))
       (capture-last b (bitOf b v c && true) (sending n (shifted c (bitOf b w c) w (top b v c))) v l (last-bit b v c l m))
       (lines-at phase b h n x (not phase) (levels-capture phase b n c e (omega arith))))
-      (onward-in (sm phase b h) n x (k .mtx) (push (cut b v) (k .mrx)) _ (omega arith))
+      (next-in (sm phase b h) n x (k .mtx) (push (cut b v) (k .mrx)) _ (omega arith))
       (slave-by (ss phase b h) _ _ (drivenAt phase b h w v k c n .s) (completed (chosen true (shifted c (bitOf b v c) v (top b w c))) (cut b w)) (chosen false x′) (shown (bitOf b v c))
       (slave-captures phase b h (shifted c (bitOf b v c) v (top b w c)) (bitOf b w c) (bitOf b w c) _
       ∙ capture-last b (bitOf b w c && true) (chosen true (shifted c (bitOf b v c) v (top b w c))) w l (last-bit b w c l m))
@@ -187,8 +183,8 @@ module _ (phase : Bool) (b h w v : ℕ) (k : Queues) (m : b ≤ 16) where
       (calm phase b h (k .stx) (push (cut b w) (k .srx)) false x′ (not phase) (bitOf b w c) (bitOf b w c) (ended phase b h x′)) refl
 
   -- a word, from its first bit on the lines to its last capture
-  pub word-run : 0 < b → Trace (Going (sm phase b h) (ss phase b h)) (step phase b h) (2 * b - 1) (drivenAt phase b h w v k 0 2) (filledAt b w v (received b w v k) (b - 1) (not phase) (2 * b + 1))
+  pub word-run : 0 < b → Trace (LiveSlot (sm phase b h) (ss phase b h)) (step phase b h) (2 * b - 1) (drivenAt phase b h w v k 0 2) (filledAt b w v (received b w v k) (b - 1) (not phase) (2 * b + 1))
   word-run l =
       trace-count (omega arith)
       (trace-then (bits-run phase b h w v k m (b - 1) 0 (b - 1) 2 (2 * b) (omega arith) (omega arith) (omega arith) (omega arith))
-      (going (last-slot (b - 1) (2 * b) (omega arith) (omega arith)) refl refl refl none))
+      (slot-then (last-slot (b - 1) (2 * b) (omega arith) (omega arith)) refl none))

@@ -1,15 +1,13 @@
 -- The parts of a slot's step, one law each: the master's event, its lines, a capture, the slave's quiet cycle.
-use Prim.Native.Nat.{ℕ, suc, _+_, _*_, _≤_, _<_}
-use mathlib.Core.Path.{_≡_, refl, sym, ap, ap₂, _∙_, subst}
-use mathlib.Core.Bool.{Bool, true, false, not, _&&_}
+use Prim.Native.Nat.{ℕ, suc, _+_, _<_}
+use mathlib.Core.Path.{_≡_, sym, ap, ap₂, _∙_, subst}
+use mathlib.Core.Bool.{Bool, true, false}
 use mathlib.Core.List.{List}
 use native.Mathlib.Omega.{arith}
 use native.Mathlib.Nat.{mod-eq-of-lt, mod-lt}
 use lib.Pow.{pow-pos}
-use lib.Dec.{ltb, leb, eqb}
-use lib.ListN.{length, getD}
-use borrow.Author.Tests.{eq-eqb, ne-eqb, lt-ltb, le-ltb, le-leb, lt-leb}
-use Rattle.registers.specs.Choose.{pick}
+use lib.ListN.{getD}
+use borrow.Author.Tests.{eq-eqb, ne-eqb, lt-ltb}
 use Rattle.registers.specs.Time.{cycles, slots}
 use Rattle.registers.specs.declared.settings.Settings.{Settings}
 use Rattle.serial.specs.Bits.{cut, shiftedIn}
@@ -19,10 +17,11 @@ use Rattle.serial.specs.Lines.{masterLines, slaveLines}
 use Rattle.serial.specs.Master.{act, masterStep, acting, dataBit}
 use Rattle.serial.specs.Slave.{slaveStep, slaveEnd}
 use Rattle.serial.specs.Pair.{wire}
-use Rattle.serial.proofs.Exchange.Core.{Receiver, Side, waits, withEngine, moved, acted, slaveSide, push, busy}
-use Rattle.serial.proofs.Exchange.Settle.{Two, at, onward, slotStep, next, Live}
+use Rattle.serial.proofs.Exchange.Core.{Receiver, Side, waits, withEngine, moved, acted, slaveSide}
+use Rattle.serial.proofs.WithinSlot.{Live, next-within}
+use Rattle.serial.proofs.Exchange.Settle.{Two, nextSide, slotStep, next}
 use Rattle.serial.proofs.Exchange.Trace.{Trace, more}
-use Rattle.serial.proofs.Exchange.Quiet.{side-after, after}
+use Rattle.serial.proofs.Exchange.Quiet.{side-after}
 use Rattle.serial.specs.declared.engine.Engine.{Engine}
 use Rattle.serial.specs.declared.engine.Shift.{Shift}
 use Rattle.serial.specs.declared.engine.Step.{Step}
@@ -55,13 +54,13 @@ abbrev pub shifted : ℕ → Bool → ℕ → ℕ → Shift
 shifted c d w r = record { captured = c; level = d; sending = w; receiving = r }
 
 -- a step put together from its parts
-pub slot-parts : (sm ss : Settings) (t : Two) (y m s′ s″ : Side) → next sm ss t ≡ y → onward sm y ≡ m
+pub slot-parts : (sm ss : Settings) (t : Two) (y m s′ s″ : Side) → next sm ss t ≡ y → nextSide sm y ≡ m
     → slaveSide ss (wire (t .m .lines)) (wire (y .lines)) (t .s) ≡ s′ → slaveSide ss (wire (y .lines)) (wire (y .lines)) s′ ≡ s″
     → slotStep sm ss t ≡ record { m = m; s = s″ }
 unfolding slotStep
 slot-parts sm ss t y m s′ s″ p q r z =
     let o = wire (t .m .lines) in
-    ap (λ (u : Side). record { m = onward sm u; s = slaveSide ss (wire (u .lines)) (wire (u .lines)) (slaveSide ss o (wire (u .lines)) (t .s)) }) p
+    ap (λ (u : Side). record { m = nextSide sm u; s = slaveSide ss (wire (u .lines)) (wire (u .lines)) (slaveSide ss o (wire (u .lines)) (t .s)) }) p
     ∙ ap₂ (λ (u v : Side). record { m = u; s = slaveSide ss (wire (y .lines)) (wire (y .lines)) v }) q r
     ∙ ap (λ (v : Side). record { m = m; s = v }) z
 
@@ -79,10 +78,9 @@ acted-by s n x tx rx l l′ d v r e a q =
     ap (λ (u : Step). moved u side (masterLines s (u .engine))) (event-step s n x (waits tx) (getD tx 0 0) d v e ∙ a) ∙ ap (moved r side) q
 
 -- the next slot of a frame
-pub onward-in : (s : Settings) (n : ℕ) (x : Shift) (tx : List ℕ) (rx : Receiver) (l : Lines) → n < lastSlot s .0
-    → onward s (record { tx = tx; rx = rx; engine = sending n x; lines = l }) ≡ record { tx = tx; rx = rx; engine = sending (n + 1) x; lines = l }
-unfolding onward
-onward-in s n x tx rx l k = rw (lt-ltb n (lastSlot s .0) k)
+pub next-in : (s : Settings) (n : ℕ) (x : Shift) (tx : List ℕ) (rx : Receiver) (l : Lines) → n < lastSlot s .0
+    → nextSide s (record { tx = tx; rx = rx; engine = sending n x; lines = l }) ≡ record { tx = tx; rx = rx; engine = sending (n + 1) x; lines = l }
+next-in s n x tx rx l k = ap (λ (e : Engine). record { tx = tx; rx = rx; engine = e; lines = l }) (next-within s (sending n x) k)
 
 -- a capture, and the one that completes a word
 pub capture-in : (b : ℕ) (d : Bool) (e : Engine) → e .shift .captured + 1 < b
@@ -109,7 +107,7 @@ pub record Slot (sm ss : Settings) (t : Two) (y : Side) (t′ : Two) : Type 0 wh
   pub steps : slotStep sm ss t ≡ t′
   pub gets : slaveSide ss (wire (t .m .lines)) (wire (next sm ss t .lines)) (t .s) .rx ≡ t′ .s .rx
 
-pub slot-of : (sm ss : Settings) (t : Two) (y m s′ s″ : Side) → next sm ss t ≡ y → onward sm y ≡ m
+pub slot-of : (sm ss : Settings) (t : Two) (y m s′ s″ : Side) → next sm ss t ≡ y → nextSide sm y ≡ m
     → slaveSide ss (wire (t .m .lines)) (wire (y .lines)) (t .s) ≡ s′ → slaveSide ss (wire (y .lines)) (wire (y .lines)) s′ ≡ s″ → s′ .rx ≡ s″ .rx
     → Slot sm ss t y (record { m = m; s = s″ })
 slot-of sm ss t y m s′ s″ p q r z g =
@@ -119,13 +117,9 @@ slot-of sm ss t y m s′ s″ p q r z g =
       gets = ap (λ (u : Side). slaveSide ss (wire (t .m .lines)) (wire (u .lines)) (t .s) .rx) p ∙ ap (λ (u : Side). u .rx) r ∙ g;
     }
 
--- a state in which the master is busy and stays so through the slot
-pub record Going (sm ss : Settings) (t : Two) : Type 0 where
-  pub live : Live (next sm ss t)
-  pub now : busy (t .m) ≡ true
-  pub then : busy (next sm ss t) ≡ true
+-- in the slot that begins the master is in a frame, or idle in one of its idle slots
+abbrev pub LiveSlot : Settings → Settings → Two → Type 0
+LiveSlot sm ss t = Live (next sm ss t .engine)
 
-pub going : {sm ss : Settings} {t t′ z : Two} {y : Side} {n : ℕ} → Slot sm ss t y t′ → Live y → busy (t .m) ≡ true → busy y ≡ true
-    → Trace (Going sm ss) (slotStep sm ss) n t′ z → Trace (Going sm ss) (slotStep sm ss) (suc n) t z
-going q live now then r =
-    more (record { live = subst Live (sym (q .acts)) live; now = now; then = ap busy (q .acts) ∙ then }) (q .steps) r
+pub slot-then : {sm ss : Settings} {t t′ z : Two} {y : Side} {n : ℕ} → Slot sm ss t y t′ → Live (y .engine) → Trace (LiveSlot sm ss) (slotStep sm ss) n t′ z → Trace (LiveSlot sm ss) (slotStep sm ss) (suc n) t z
+slot-then q live r = more (subst (λ (x : Side). Live (x .engine)) (sym (q .acts)) live) (q .steps) r

@@ -1,29 +1,27 @@
 -- Motorola, SPH 0: words one after another, each under an FSS of its own.
-use Prim.Native.Nat.{ℕ, zero, suc, _+_, _-_, _*_, _≤_, _<_}
-use mathlib.Core.Path.{_≡_, refl, sym, ap, ap₂, _∙_, subst}
-use mathlib.Core.Bool.{Bool, true, false, not, _&&_}
+use Prim.Native.Nat.{ℕ, _+_, _-_, _*_, _≤_, _<_}
+use mathlib.Core.Path.{_≡_, refl, ap}
+use mathlib.Core.Bool.{true, false, _&&_}
 use mathlib.Core.List.{List, [], _∷_, map}
 use native.Mathlib.Omega.{arith}
-use lib.ListN.{length, getD}
-use borrow.Author.Tests.{ne-eqb, lt-ltb}
-use Rattle.registers.specs.Choose.{pick}
+use lib.ListN.{length}
+use borrow.Author.Tests.{ne-eqb}
 use Rattle.registers.specs.Transfer.{rest}
 use Rattle.serial.specs.Bits.{bitOf, cut}
-use Rattle.serial.specs.Engine.{cleared, noWord, begun, loaded, started, driven}
+use Rattle.serial.specs.Engine.{noWord, begun, loaded, started, driven}
 use Rattle.serial.specs.Slots.{eventOf, lastSlot, widthOf}
 use Rattle.serial.specs.Lines.{slaveLines}
 use Rattle.serial.specs.Master.{dataBit}
-use Rattle.serial.specs.Slave.{selectedOf, slaveStep, slaveEnd, motorolaSlave, motorolaSelect, motorolaEdges, captureEdge, driveEdge, motorolaClock}
+use Rattle.serial.specs.Slave.{slaveStep, slaveEnd, motorolaSlave, motorolaSelect, motorolaEdges, captureEdge, driveEdge, motorolaClock}
 use Rattle.serial.specs.Pair.{wire}
-use Rattle.serial.proofs.Exchange.Trace.{Trace, none, more, iterate, trace-count, trace-then, trace-end}
+use Rattle.serial.proofs.Exchange.Trace.{Trace, none, iterate, trace-count, trace-then, trace-end}
 use Rattle.serial.proofs.Exchange.Top.{top-zero}
-use Rattle.serial.proofs.Exchange.Core.{Receiver, Side, push, slaveSide, coreCycle, busy}
-use Rattle.serial.proofs.Exchange.Settle.{Two, Live, Settled, rested, slotStep}
-use Rattle.serial.proofs.Exchange.Quiet.{quiet-low}
+use Rattle.serial.proofs.Exchange.Core.{Receiver, push, slaveSide, coreCycle}
+use Rattle.serial.proofs.Exchange.Settle.{Two, rested}
 use Rattle.serial.proofs.Exchange.Events.{motorola-drive, motorola-last, levels-drive, levels-last}
-use Rattle.serial.proofs.Exchange.Moves.{Queues, inFrame, shown, hidden, sending, shifted, acted-by, onward-in, slave-by, Slot, slot-of, Going, going}
+use Rattle.serial.proofs.Exchange.Moves.{Queues, inFrame, shown, hidden, sending, shifted, acted-by, next-in, slave-by, Slot, slot-of, LiveSlot, slot-then}
 use Rattle.serial.proofs.Exchange.Motorola.{sm, ss, step, chosen, drivenAt, filledAt, received, lines-at, in-word, calm, ended, word-run}
-use Rattle.serial.proofs.Exchange.Ends.{front, idle, holding, opened, begin-acts, waits-cons, release-slot, pause-slot, releasedAt, parked, ever, freed-busy, idle-stays, pushAll, answers, Holds, Exchange}
+use Rattle.serial.proofs.Exchange.Ends.{front, idle, holding, opened, begin-acts, release-slot, pause-slot, ever, idle-stays, pushAll, answers, Holds, Exchange}
 use Rattle.serial.specs.declared.slots.Event.the-variants.{Drive, Pause}
 
 -- both words are taken, the slave's first bit is on its line
@@ -42,7 +40,7 @@ module _ (b h : ℕ) (l : 0 < b) where
       let x′ = shifted 0 (bitOf b (front vs) 0) (front vs) 0 in
       slot-of (sm false b h) (ss false b h) (idle (holding (w ∷ ws) q vs r)) (opened w ws q) (begunAt b w (front vs) (holding ws q (rest vs) r) .m) (begunAt b w (front vs) (holding ws q (rest vs) r) .s) (begunAt b w (front vs) (holding ws q (rest vs) r) .s)
       (begin-acts false b h w ws q false)
-      (onward-in (sm false b h) 0 (loaded w) ws q (inFrame false false) (omega arith))
+      (next-in (sm false b h) 0 (loaded w) ws q (inFrame false false) (omega arith))
       (slave-by (ss false b h) (wire hidden) (wire (inFrame false false)) (idle (holding (w ∷ ws) q vs r) .s) (begun (chosen false (shifted 0 false 0 0)) x′) (chosen true x′) (shown (bitOf b (front vs) 0)) refl (in-word false b h x′ l) refl)
       (calm false b h (rest vs) r true x′ false false false (in-word false b h x′ l)) refl
 
@@ -56,7 +54,7 @@ module _ (b h : ℕ) (l : 0 < b) where
       (slot-of (sm false b h) (ss false b h) (begunAt b w v k) (record { tx = k .mtx; rx = k .mrx; engine = sending 1 x; lines = inFrame false (bitOf b w 0) })
       (record { tx = k .mtx; rx = k .mrx; engine = sending 2 x; lines = inFrame false (bitOf b w 0) }) (begunAt b w v k .s) (begunAt b w v k .s)
       (acted-by (sm false b h) 1 (loaded w) (k .mtx) (k .mrx) _ _ (bitOf b v 0 && true) (Drive 0) (noWord (sending 1 x)) (motorola-drive false b 1 0 refl l) refl (lines-at false b h 1 x false (levels-drive false b 1 0 refl l)))
-      (onward-in (sm false b h) 1 x (k .mtx) (k .mrx) _ (omega arith))
+      (next-in (sm false b h) 1 x (k .mtx) (k .mrx) _ (omega arith))
       (calm false b h (k .stx) (k .srx) true x′ false false (bitOf b w 0) (in-word false b h x′ l))
       (calm false b h (k .stx) (k .srx) true x′ false (bitOf b w 0) (bitOf b w 0) (in-word false b h x′ l)) refl)
 
@@ -68,30 +66,30 @@ hold-slot b h w v k c n e =
     let x′ = shifted (c + 1) (bitOf b v c) v (cut b w) in
     slot-of (sm false b h) (ss false b h) (filledAt b w v k c true n) (filledAt b w v k c false n .m) (filledAt b w v k c false (n + 1) .m) (filledAt b w v k c false n .s) (filledAt b w v k c false n .s)
     (acted-by (sm false b h) n x (k .mtx) (k .mrx) _ _ (bitOf b v c && true) Pause (noWord (sending n x)) (motorola-last false b n e) refl (lines-at false b h n x false (levels-last false b n e)))
-    (onward-in (sm false b h) n x (k .mtx) (k .mrx) _ (omega arith))
+    (next-in (sm false b h) n x (k .mtx) (k .mrx) _ (omega arith))
     (slave-by (ss false b h) (wire (inFrame true (bitOf b w c))) (wire (inFrame false (bitOf b w c))) (filledAt b w v k c true n .s) (noWord (chosen false x′)) (chosen false x′) (shown (bitOf b v c)) refl (ended false b h x′) refl)
     (calm false b h (k .stx) (k .srx) false x′ false (bitOf b w c) (bitOf b w c) (ended false b h x′)) refl
 
 module _ (b h : ℕ) (l : 0 < b) (m : b ≤ 16) where
   -- a word, from between frames to the slot in which the frame is over
   frame-run : (w : ℕ) (ws : List ℕ) (q : Receiver) (vs : List ℕ) (r : Receiver)
-      → Trace (Going (sm false b h) (ss false b h)) (step false b h) (2 * b + 2) (idle (holding (w ∷ ws) q vs r))
+      → Trace (LiveSlot (sm false b h) (ss false b h)) (step false b h) (2 * b + 2) (idle (holding (w ∷ ws) q vs r))
       (filledAt b w (front vs) (received b w (front vs) (holding ws q (rest vs) r)) (b - 1) false (2 * b + 2))
   frame-run w ws q vs r =
       let k = holding ws q (rest vs) r in
       trace-count (omega arith)
-      (going (take-slot b h l w ws q vs r) refl (waits-cons w ws) refl
-      (going (first-slot b h l w (front vs) k) refl refl refl
+      (slot-then (take-slot b h l w ws q vs r) refl
+      (slot-then (first-slot b h l w (front vs) k) refl
       (trace-then (word-run false b h w (front vs) k m l)
-      (going (hold-slot b h w (front vs) (received b w (front vs) k) (b - 1) (2 * b + 1) refl) refl refl refl
+      (slot-then (hold-slot b h w (front vs) (received b w (front vs) k) (b - 1) (2 * b + 1) refl) refl
       (trace-end none (ap (filledAt b w (front vs) (received b w (front vs) k) (b - 1) false) (omega arith)))))))
 
-  -- with words left the master stays busy through the idle slots
+  -- the idle slots with words left
   gap-run : (w v : ℕ) (u : ℕ) (ws : List ℕ) (q : Receiver) (vs : List ℕ) (r : Receiver) (c : ℕ)
-      → Trace (Going (sm false b h) (ss false b h)) (step false b h) 2 (filledAt b w v (holding (u ∷ ws) q vs r) c false (2 * b + 2)) (idle (holding (u ∷ ws) q vs r))
+      → Trace (LiveSlot (sm false b h) (ss false b h)) (step false b h) 2 (filledAt b w v (holding (u ∷ ws) q vs r) c false (2 * b + 2)) (idle (holding (u ∷ ws) q vs r))
   gap-run w v u ws q vs r c =
-      going (release-slot false b h (holding (u ∷ ws) q vs r) w v c (2 * b + 2) refl) (ne-eqb (2 * b + 2) 0 (omega arith)) refl (waits-cons u ws)
-      (going (pause-slot false b h (holding (u ∷ ws) q vs r) (2 * b + 2 + 1) (omega arith)) (ne-eqb (2 * b + 2 + 1) 0 (omega arith)) (waits-cons u ws) (waits-cons u ws) none)
+      slot-then (release-slot false b h (holding (u ∷ ws) q vs r) w v c (2 * b + 2) refl) (ne-eqb (2 * b + 2) 0 (omega arith))
+      (slot-then (pause-slot false b h (holding (u ∷ ws) q vs r) (2 * b + 2 + 1) (omega arith)) (ne-eqb (2 * b + 2 + 1) 0 (omega arith)) none)
 
 abbrev lastOf : ℕ → ℕ → List ℕ → Receiver → List ℕ → Receiver → Two
 lastOf b w [] q vs r = filledAt b w (front vs) (received b w (front vs) (holding [] q (rest vs) r)) (b - 1) false (2 * b + 2)
@@ -99,7 +97,7 @@ lastOf b w (u ∷ ws) q vs r = lastOf b u ws (push (cut b (front vs)) q) (rest v
 
 module _ (b h : ℕ) (l : 0 < b) (m : b ≤ 16) where
   load-run : (w : ℕ) (ws : List ℕ) (q : Receiver) (vs : List ℕ) (r : Receiver)
-      → Trace (Going (sm false b h) (ss false b h)) (step false b h) (length ws * (2 * b + 4) + (2 * b + 2)) (idle (holding (w ∷ ws) q vs r)) (lastOf b w ws q vs r)
+      → Trace (LiveSlot (sm false b h) (ss false b h)) (step false b h) (length ws * (2 * b + 4) + (2 * b + 2)) (idle (holding (w ∷ ws) q vs r)) (lastOf b w ws q vs r)
   load-run w [] q vs r = trace-count (omega arith) (frame-run b h l m w [] q vs r)
   load-run w (u ∷ ws) q vs r =
       trace-count (omega arith)
@@ -114,19 +112,7 @@ module _ (b h : ℕ) (l : 0 < b) (m : b ≤ 16) where
       ever false b h w (front vs) (b - 1) (push (cut b (front vs)) q) (rest vs) (push (cut b w) r) k (calm false b h (rest vs) (push (cut b w) r) false x′ false (bitOf b w (b - 1)) (bitOf b w (b - 1)) (ended false b h x′)) i
   last-ever k w (u ∷ ws) q vs r i = last-ever k u ws (push (cut b (front vs)) q) (rest vs) (push (cut b w) r) i
 
-  last-free : 1 < h → (w : ℕ) (ws : List ℕ) (q : Receiver) (vs : List ℕ) (r : Receiver) → busy (iterate 1 (coreCycle (sm false b h) (ss false b h)) (rested (lastOf b w ws q vs r)) .m) ≡ false
-  last-free k w [] q vs r = freed-busy false b h w (front vs) (b - 1) (push (cut b (front vs)) q) (rest vs) (push (cut b w) r) k
-  last-free k w (u ∷ ws) q vs r = last-free k u ws (push (cut b (front vs)) q) (rest vs) (push (cut b w) r)
-
-  last-busy : (w : ℕ) (ws : List ℕ) (q : Receiver) (vs : List ℕ) (r : Receiver) → busy (lastOf b w ws q vs r .m) ≡ true
-  last-busy w [] q vs r = refl
-  last-busy w (u ∷ ws) q vs r = last-busy u ws (push (cut b (front vs)) q) (rest vs) (push (cut b w) r)
-
-  last-hold : (w : ℕ) (ws : List ℕ) (q : Receiver) (vs : List ℕ) (r : Receiver) (i : ℕ) → i < 1 → busy (iterate i (coreCycle (sm false b h) (ss false b h)) (rested (lastOf b w ws q vs r)) .m) ≡ true
-  last-hold w ws q vs r zero l = last-busy w ws q vs r
-  last-hold w ws q vs r (suc i) l = absurd (omega arith)
-
-  pub exchange : 6 ≤ h → Exchange (sm false b h) (ss false b h) b hidden (λ n. n * (2 * b + 4) + (2 * b + 2)) 1
+  pub exchange : 6 ≤ h → Exchange (sm false b h) (ss false b h) b hidden (λ n. n * (2 * b + 4) + (2 * b + 2))
   unfolding slaveSide slaveStep motorolaSlave slaveEnd slaveLines wire
   exchange k =
       record {
@@ -134,9 +120,6 @@ module _ (b h : ℕ) (l : 0 < b) (m : b ≤ 16) where
         settled = λ k. refl;
         holds = λ k. (refl, refl);
         run = load-run;
-        hold = last-hold;
-        free = last-free (omega arith);
         ever = last-ever k;
         rest = idle-stays false b h;
-        unbusy = λ q vs r. refl;
       }

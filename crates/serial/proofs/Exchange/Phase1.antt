@@ -1,30 +1,29 @@
 -- Motorola, SPH 1: words one after another under one FSS.
-use Prim.Native.Nat.{ℕ, zero, suc, _+_, _-_, _*_, _≤_, _<_}
-use mathlib.Core.Path.{_≡_, refl, sym, ap, ap₂, _∙_, subst}
-use mathlib.Core.Bool.{Bool, true, false, not, _&&_}
+use Prim.Native.Nat.{ℕ, suc, _+_, _-_, _*_, _≤_, _<_}
+use mathlib.Core.Path.{_≡_, refl, ap}
+use mathlib.Core.Bool.{Bool, true, false, _&&_}
 use mathlib.Core.List.{List, [], _∷_, map}
 use native.Mathlib.Omega.{arith}
-use lib.ListN.{length, getD}
+use lib.ListN.{length}
 use Rattle.registers.specs.Time.{slots}
 use Rattle.registers.specs.Choose.{pick}
 use Rattle.registers.specs.Transfer.{rest}
 use Rattle.serial.specs.Bits.{bitOf, cut}
-use Rattle.serial.specs.Engine.{cleared, clearShift, noWord, begun, loaded, started, driven}
+use Rattle.serial.specs.Engine.{clearShift, noWord, begun, loaded, started, driven}
 use Rattle.serial.specs.Slots.{eventOf, lastSlot, widthOf}
 use Rattle.serial.specs.Lines.{slaveLines}
-use Rattle.serial.specs.Master.{dataBit, act}
+use Rattle.serial.specs.Master.{dataBit}
 use Rattle.serial.specs.Slave.{slaveStep, slaveEnd, motorolaSlave, motorolaSelect, motorolaEdges, captureEdge, driveEdge, motorolaClock}
 use Rattle.serial.specs.Pair.{wire}
-use Rattle.serial.proofs.Exchange.Trace.{Trace, none, more, iterate, trace-count, trace-then, trace-end}
+use Rattle.serial.proofs.Exchange.Trace.{Trace, none, iterate, trace-count, trace-then, trace-end}
 use Rattle.serial.proofs.Exchange.Top.{top-zero}
-use Rattle.serial.proofs.Exchange.Core.{Receiver, Side, push, slaveSide, coreCycle, busy, waits}
-use Rattle.serial.proofs.Exchange.Settle.{Two, Live, Settled, rested, slotStep}
+use Rattle.serial.proofs.Exchange.Core.{Receiver, Side, push, slaveSide, coreCycle}
+use Rattle.serial.proofs.Exchange.Settle.{Two, rested}
 use Rattle.serial.proofs.Exchange.Events.{motorola-drive, motorola-last, levels-drive, levels-last}
-use Rattle.serial.proofs.Exchange.Moves.{Queues, inFrame, shown, hidden, sending, shifted, acted-by, onward-in, slave-by, Slot, slot-of, Going, going}
+use Rattle.serial.proofs.Exchange.Moves.{Queues, inFrame, shown, hidden, sending, shifted, acted-by, next-in, slave-by, Slot, slot-of, LiveSlot, slot-then}
 use Rattle.serial.proofs.Exchange.Motorola.{sm, ss, step, chosen, drivenAt, filledAt, received, lines-at, in-word, calm, ended, word-run}
-use Rattle.serial.proofs.Exchange.Ends.{front, idle, holding, opened, begin-acts, waits-cons, ever, freed-busy, idle-stays, pushAll, answers, Holds, Exchange}
+use Rattle.serial.proofs.Exchange.Ends.{front, idle, holding, opened, begin-acts, waits-cons, ever, idle-stays, pushAll, answers, Holds, Exchange}
 use Rattle.serial.specs.declared.engine.Shift.{Shift}
-use Rattle.serial.specs.declared.engine.Step.{Step}
 use Rattle.serial.specs.declared.slots.Event.the-variants.{Drive, Chain}
 
 -- the master has taken its word, the slave is selected
@@ -47,7 +46,7 @@ module _ (b h : ℕ) (l : 0 < b) where
   take-slot w ws q vs r =
       slot-of (sm true b h) (ss true b h) (idle (holding (w ∷ ws) q vs r)) (opened w ws q) (selectedAt w (holding ws q vs r) .m) (selectedAt w (holding ws q vs r) .s) (selectedAt w (holding ws q vs r) .s)
       (begin-acts true b h w ws q false)
-      (onward-in (sm true b h) 0 (loaded w) ws q (inFrame false false) (omega arith))
+      (next-in (sm true b h) 0 (loaded w) ws q (inFrame false false) (omega arith))
       (slave-by (ss true b h) (wire hidden) (wire (inFrame false false)) (idle (holding (w ∷ ws) q vs r) .s) (noWord (chosen false clearShift)) (chosen false clearShift) (shown false) refl (ended true b h clearShift) refl)
       (calm true b h vs r false clearShift false false false (ended true b h clearShift)) refl
 
@@ -63,7 +62,7 @@ module _ (b h : ℕ) (l : 0 < b) where
       (slot-of (sm true b h) (ss true b h) (selectedAt w (holding ws q vs r)) (record { tx = ws; rx = q; engine = sending 1 x; lines = inFrame true (bitOf b w 0) })
       (record { tx = ws; rx = q; engine = sending 2 x; lines = inFrame true (bitOf b w 0) }) y y
       (acted-by (sm true b h) 1 (loaded w) ws q _ _ false (Drive 0) (noWord (sending 1 x)) (motorola-drive true b 1 0 refl l) refl (lines-at true b h 1 x true (levels-drive true b 1 0 refl l)))
-      (onward-in (sm true b h) 1 x ws q _ (omega arith))
+      (next-in (sm true b h) 1 x ws q _ (omega arith))
       (slave-by (ss true b h) _ _ (selectedAt w (holding ws q vs r) .s) (begun (chosen false clearShift) x′) (chosen true x′) (shown (bitOf b (front vs) 0)) (slave-takes b h clearShift false (bitOf b w 0) (front vs)) (in-word true b h x′ l) refl)
       (calm true b h (rest vs) r true x′ true (bitOf b w 0) (bitOf b w 0) (in-word true b h x′ l)) refl)
 
@@ -83,7 +82,7 @@ module _ (b h : ℕ) (l : 0 < b) where
       (acted-by (sm true b h) n x0 (u ∷ ws) q _ _ (bitOf b v c && true) (Chain (slots 1)) (begun (sending 1 x0) x) (motorola-last true b n e)
       (ap (λ (t : Bool). pick t (begun (sending 1 x0) x) (noWord (sending n x0))) (waits-cons u ws))
       (lines-at true b h 1 x true (levels-drive true b 1 0 refl l)))
-      (onward-in (sm true b h) 1 x ws q _ (omega arith))
+      (next-in (sm true b h) 1 x ws q _ (omega arith))
       (slave-by (ss true b h) _ _ (filledAt b w v (holding (u ∷ ws) q vs r) c false n .s) (begun (chosen false (shifted (c + 1) (bitOf b v c) v (cut b w))) x′) (chosen true x′) (shown (bitOf b (front vs) 0))
       (slave-takes b h (shifted (c + 1) (bitOf b v c) v (cut b w)) (bitOf b w c) (bitOf b u 0) (front vs)) (in-word true b h x′ l) refl)
       (calm true b h (rest vs) r true x′ true (bitOf b u 0) (bitOf b u 0) (in-word true b h x′ l)) refl)
@@ -99,7 +98,7 @@ hold-slot b h w v q vs r c n e =
     let still-there = calm true b h vs r false x′ false (bitOf b w c) (bitOf b w c) (ended true b h x′) in
     slot-of (sm true b h) (ss true b h) (filledAt b w v k c false n) (filledAt b w v k c false n .m) (filledAt b w v k c false (n + 1) .m) (filledAt b w v k c false n .s) (filledAt b w v k c false n .s)
     (acted-by (sm true b h) n x [] q _ _ (bitOf b v c && true) (Chain (slots 1)) (noWord (sending n x)) (motorola-last true b n e) refl (lines-at true b h n x false (levels-last true b n e)))
-    (onward-in (sm true b h) n x [] q _ (omega arith))
+    (next-in (sm true b h) n x [] q _ (omega arith))
     still-there still-there refl
 
 abbrev lastOf : ℕ → ℕ → ℕ → List ℕ → Receiver → List ℕ → Receiver → Two
@@ -109,24 +108,24 @@ lastOf b w v (u ∷ ws) q vs r = lastOf b u (front vs) ws (push (cut b v) q) (re
 module _ (b h : ℕ) (l : 0 < b) (m : b ≤ 16) where
   -- the words of a load, from the first one's first bit on
   words-run : (w v : ℕ) (ws : List ℕ) (q : Receiver) (vs : List ℕ) (r : Receiver)
-      → Trace (Going (sm true b h) (ss true b h)) (step true b h) (suc (length ws) * (2 * b)) (drivenAt true b h w v (holding ws q vs r) 0 2) (lastOf b w v ws q vs r)
+      → Trace (LiveSlot (sm true b h) (ss true b h)) (step true b h) (suc (length ws) * (2 * b)) (drivenAt true b h w v (holding ws q vs r) 0 2) (lastOf b w v ws q vs r)
   words-run w v [] q vs r =
       trace-count (omega arith)
       (trace-then (word-run true b h w v (holding [] q vs r) m l)
-      (going (hold-slot b h w v (push (cut b v) q) vs (push (cut b w) r) (b - 1) (2 * b + 1) refl) refl refl refl
+      (slot-then (hold-slot b h w v (push (cut b v) q) vs (push (cut b w) r) (b - 1) (2 * b + 1) refl) refl
       (trace-end none (ap (filledAt b w v (received b w v (holding [] q vs r)) (b - 1) false) (omega arith)))))
   words-run w v (u ∷ ws) q vs r =
       trace-count (omega arith)
       (trace-then (word-run true b h w v (holding (u ∷ ws) q vs r) m l)
-      (going (chain-slot b h l w v u ws (push (cut b v) q) vs (push (cut b w) r) (b - 1) (2 * b + 1) refl) refl refl refl
+      (slot-then (chain-slot b h l w v u ws (push (cut b v) q) vs (push (cut b w) r) (b - 1) (2 * b + 1) refl) refl
       (words-run u (front vs) ws (push (cut b v) q) (rest vs) (push (cut b w) r))))
 
   load-run : (w : ℕ) (ws : List ℕ) (q : Receiver) (vs : List ℕ) (r : Receiver)
-      → Trace (Going (sm true b h) (ss true b h)) (step true b h) (2 * b * suc (length ws) + 2) (idle (holding (w ∷ ws) q vs r)) (lastOf b w (front vs) ws q (rest vs) r)
+      → Trace (LiveSlot (sm true b h) (ss true b h)) (step true b h) (2 * b * suc (length ws) + 2) (idle (holding (w ∷ ws) q vs r)) (lastOf b w (front vs) ws q (rest vs) r)
   load-run w ws q vs r =
       trace-count (omega arith)
-      (going (take-slot b h l w ws q vs r) refl (waits-cons w ws) refl
-      (going (first-slot b h l w ws q vs r) refl refl refl (words-run w (front vs) ws q (rest vs) r)))
+      (slot-then (take-slot b h l w ws q vs r) refl
+      (slot-then (first-slot b h l w ws q vs r) refl (words-run w (front vs) ws q (rest vs) r)))
 
   last-ever : 6 ≤ h → (w v : ℕ) (ws : List ℕ) (q : Receiver) (vs : List ℕ) (r : Receiver) (i : ℕ)
       → Holds (pushAll (map (cut b) (answers ws vs)) (push (cut b v) q)) (pushAll (map (cut b) ws) (push (cut b w) r)) (iterate i (coreCycle (sm true b h) (ss true b h)) (rested (lastOf b w v ws q vs r)))
@@ -135,19 +134,7 @@ module _ (b h : ℕ) (l : 0 < b) (m : b ≤ 16) where
       ever true b h w v (b - 1) (push (cut b v) q) vs (push (cut b w) r) k (calm true b h vs (push (cut b w) r) false x′ false (bitOf b w (b - 1)) (bitOf b w (b - 1)) (ended true b h x′)) i
   last-ever k w v (u ∷ ws) q vs r i = last-ever k u (front vs) ws (push (cut b v) q) (rest vs) (push (cut b w) r) i
 
-  last-free : 1 < h → (w v : ℕ) (ws : List ℕ) (q : Receiver) (vs : List ℕ) (r : Receiver) → busy (iterate 1 (coreCycle (sm true b h) (ss true b h)) (rested (lastOf b w v ws q vs r)) .m) ≡ false
-  last-free k w v [] q vs r = freed-busy true b h w v (b - 1) (push (cut b v) q) vs (push (cut b w) r) k
-  last-free k w v (u ∷ ws) q vs r = last-free k u (front vs) ws (push (cut b v) q) (rest vs) (push (cut b w) r)
-
-  last-busy : (w v : ℕ) (ws : List ℕ) (q : Receiver) (vs : List ℕ) (r : Receiver) → busy (lastOf b w v ws q vs r .m) ≡ true
-  last-busy w v [] q vs r = refl
-  last-busy w v (u ∷ ws) q vs r = last-busy u (front vs) ws (push (cut b v) q) (rest vs) (push (cut b w) r)
-
-  last-hold : (w v : ℕ) (ws : List ℕ) (q : Receiver) (vs : List ℕ) (r : Receiver) (i : ℕ) → i < 1 → busy (iterate i (coreCycle (sm true b h) (ss true b h)) (rested (lastOf b w v ws q vs r)) .m) ≡ true
-  last-hold w v ws q vs r zero l = last-busy w v ws q vs r
-  last-hold w v ws q vs r (suc i) l = absurd (omega arith)
-
-  pub exchange : 6 ≤ h → Exchange (sm true b h) (ss true b h) b hidden (λ n. 2 * b * suc n + 2) 1
+  pub exchange : 6 ≤ h → Exchange (sm true b h) (ss true b h) b hidden (λ n. 2 * b * suc n + 2)
   unfolding slaveSide slaveStep motorolaSlave slaveEnd slaveLines wire
   exchange k =
       record {
@@ -155,9 +142,6 @@ module _ (b h : ℕ) (l : 0 < b) (m : b ≤ 16) where
         settled = λ k. refl;
         holds = λ k. (refl, refl);
         run = load-run;
-        hold = λ w ws q vs r. last-hold w (front vs) ws q (rest vs) r;
-        free = λ w ws q vs r. last-free (omega arith) w (front vs) ws q (rest vs) r;
         ever = λ w ws q vs r. last-ever k w (front vs) ws q (rest vs) r;
         rest = idle-stays true b h;
-        unbusy = λ q vs r. refl;
       }

@@ -1,26 +1,27 @@
 -- A cycle of two wired devices is a cycle of the exchange: the rest of the register file has no say, and SPO only turns the clock over on the wire.
 use Prim.Native.Nat.{ℕ}
-use mathlib.Core.Path.{_≡_, refl, sym, ap, ap₂, _∙_, subst}
-use mathlib.Core.Bool.{Bool, true, false, not, _&&_, _||_}
+use mathlib.Core.Path.{_≡_, refl, sym, ap, ap₂, _∙_}
+use mathlib.Core.Bool.{Bool, true, false, not, _&&_}
 use mathlib.Core.List.{List, [], _∷_, _++_, append-nil}
-use lib.Dec.{ltb, eqb}
+use lib.Dec.{eqb}
 use lib.ListN.{length, getD}
 use Rattle.registers.specs.Time.{divisor}
 use Rattle.registers.specs.Choose.{pick}
 use Rattle.registers.specs.Model.{Model}
 use Rattle.registers.specs.Settings.{settingsOf, enabledOf}
-use Rattle.registers.specs.Transfer.{added, rest, waitingOf, nextWord, takeWord, receiveWord, endCycle}
+use Rattle.registers.specs.Transfer.{rest, waitingOf, nextWord, takeWord, receiveWord, endCycle}
 use Rattle.registers.specs.declared.settings.Format.{Format}
 use Rattle.registers.specs.declared.settings.Format.the-variants.{Motorola, Ti, Microwire, Reserved}
 use Rattle.registers.specs.declared.settings.Settings.{Settings}
-use Rattle.serial.specs.Engine.{captureStep, noWord, cleared}
+use Rattle.serial.specs.Engine.{noWord}
 use Rattle.serial.specs.Slots.{eventOf, lastSlot, widthOf, levelsOf}
 use Rattle.serial.specs.Lines.{differ, masterLines, slaveLines, frameLines, linesOf}
 use Rattle.serial.specs.Master.{act, masterStep, masterEnd, ticked, acting, dataBit}
 use Rattle.serial.specs.Slave.{slaveStep, slaveEnd, motorolaSlave, motorolaSelect, motorolaEdges, motorolaClock, captureEdge, driveEdge, tiSlave, tiFalls, tiRises}
-use Rattle.serial.specs.Cycle.{DeviceModel, stepOf, endOf, takeIf, receiveIf, deviceStep, completedOf, follow, cycleOf}
+use Rattle.serial.specs.Cycle.{DeviceModel, stepOf, endOf, takeIf, receiveIf, deviceStep, completedOf, cycleOf}
 use Rattle.serial.specs.Pair.{wire, PairModel, pairCycle}
-use Rattle.serial.proofs.Exchange.Core.{Receiver, Side, Pair, plain, push, moved, waits, withEngine, masterMoves, slaveMoves, acted, masterSide, slaveSide, coreCycle}
+use Rattle.serial.proofs.Cycles.{step-tx}
+use Rattle.serial.proofs.Exchange.Core.{Receiver, Side, Pair, plain, push, moved, waits, withEngine, acted, masterSide, slaveSide, coreCycle}
 use Rattle.serial.specs.declared.History.{History}
 use Rattle.serial.specs.declared.engine.Engine.{Engine}
 use Rattle.serial.specs.declared.engine.Step.{Step}
@@ -59,10 +60,6 @@ turn-twice p x = ap (λ (c : Bool). record { clk = c; fss = x .fss; txd = x .txd
 
 pub turn-pins-twice : (p : Bool) (x : Pins) → turnPins p (turnPins p x) ≡ x
 turn-pins-twice p x = ap (λ (c : Bool). record { clk = c; fss = x .fss; rxd = x .rxd }) (differ-twice (x .clk) p)
-
-pub wire-turns : (p : Bool) (x : Lines) → wire (turnLines p x) ≡ turnPins p (wire x)
-unfolding wire
-wire-turns p x = refl
 
 -- The master --------------------------------------------------------------------------------------------------------------
 
@@ -142,26 +139,11 @@ slave-plain : {f : Format} → Serial f → (phase p : Bool) (b h k : ℕ) (e : 
 slave-plain motorola phase p b h k e x y n = motorola-turned phase p b h k e (x .clk) (y .clk) (x .fss) (x .rxd) (y .fss) (y .rxd) n
 slave-plain ti phase p b h k e x y n = ap₂ (λ (u v : Pins). slaveStep (given Ti phase p b k true false) e u v n) (turn-none x) (turn-none y) ∙ ti-same phase p b h k e x y n
 
-slave-end-plain : (f : Format) (phase p : Bool) (b h k : ℕ) (e : Engine) → slaveEnd (given f phase p b k true false) e ≡ slaveEnd (plain f phase b h true) e
-unfolding slaveEnd
-slave-end-plain f phase p b h k e = refl
-
-slave-lines-plain : (f : Format) (phase p : Bool) (b h k : ℕ) (e : Engine) → slaveLines (given f phase p b k true false) e ≡ slaveLines (plain f phase b h true) e
-unfolding slaveLines
-slave-lines-plain f phase p b h k e = refl
-
 -- The registers -----------------------------------------------------------------------------------------------------------
 
 -- the register file after a step, as the exchange has it
 abbrev pub rxOf : Model → List ℕ → Receiver
 rxOf m log = record { held = m .rx; ror = m .ror; log = log }
-
-step-tx : (m : Model) (t c : Bool) (w : ℕ) (f : Bool) → endCycle (receiveIf (takeIf m t) c w) f .tx ≡ pick t (rest (m .tx)) (m .tx)
-unfolding endCycle receiveIf takeIf receiveWord takeWord
-step-tx m true true w f = refl
-step-tx m true false w f = refl
-step-tx m false true w f = refl
-step-tx m false false w f = refl
 
 step-rx : (m : Model) (t c : Bool) (w : ℕ) (f : Bool) (log : List ℕ)
     → rxOf (endCycle (receiveIf (takeIf m t) c w) f) (log ++ pick c (w ∷ []) []) ≡ pick c (push w (rxOf m log)) (rxOf m log)
@@ -207,10 +189,6 @@ module _ {f : Format} {phase p : Bool} {b h k : ℕ} {o : Bool} (g : PairModel) 
   first-on : enabledOf (g .first .registers .control) ≡ true
   unfolding settingsOf
   first-on = ap (λ (s : Settings). s .enabled) (P .master)
-
-  second-on : enabledOf (g .second .registers .control) ≡ true
-  unfolding settingsOf
-  second-on = ap (λ (s : Settings). s .enabled) (P .slave)
 
   -- the master's step
   first-step : (x : Pins) → deviceStep (g .first) x ≡ masterStep (plain f phase b h false) (g .first .engine) (waits (g .first .registers .tx)) (getD (g .first .registers .tx) 0 0) (x .rxd)

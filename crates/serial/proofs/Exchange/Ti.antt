@@ -1,31 +1,32 @@
 -- TI: the next word is taken while the last bit of the word before is on the lines.
 use Prim.Native.Nat.{ℕ, zero, suc, _+_, _-_, _*_, _≤_, _<_}
-use mathlib.Core.Path.{_≡_, refl, sym, ap, ap₂, _∙_, subst}
-use mathlib.Core.Bool.{Bool, true, false, not, _&&_, and-true}
+use mathlib.Core.Path.{_≡_, refl, ap, ap₂, _∙_}
+use mathlib.Core.Bool.{Bool, true, false, not, _&&_}
 use mathlib.Core.List.{List, [], _∷_, map}
 use native.Mathlib.Omega.{arith}
-use lib.Dec.{ltb, leb, eqb}
-use lib.ListN.{length, getD}
-use borrow.Author.Tests.{ne-eqb, lt-ltb, le-ltb, le-leb, lt-leb}
+use lib.Dec.{eqb}
+use lib.ListN.{length}
+use borrow.Author.Tests.{ne-eqb, le-ltb, le-leb, lt-leb}
 use Rattle.registers.specs.Choose.{pick}
 use Rattle.registers.specs.Time.{cycles, slots}
 use Rattle.registers.specs.Transfer.{rest}
 use Rattle.registers.specs.declared.settings.Format.the-variants.{Ti}
 use Rattle.registers.specs.declared.settings.Settings.{Settings}
-use Rattle.serial.specs.Bits.{bitOf, cut, shiftedIn}
+use Rattle.serial.specs.Bits.{bitOf, cut}
 use Rattle.serial.specs.Engine.{cleared, clearShift, withShift, noWord, begun, loaded, started, driven, captureStep}
 use Rattle.serial.specs.Slots.{eventOf, tiEvent, lastSlot, widthOf, tiLevels, levelsOf}
 use Rattle.serial.specs.Lines.{masterLines, slaveLines, frameLines}
 use Rattle.serial.specs.Master.{act, masterStep, masterEnd, acting, resting, dataBit, joinedShift}
 use Rattle.serial.specs.Slave.{withMark, slaveStep, slaveEnd, tiSlave, tiFalls, tiRises}
 use Rattle.serial.specs.Pair.{wire}
-use Rattle.serial.proofs.Exchange.Trace.{Trace, none, more, iterate, trace-count, trace-then, trace-end}
-use Rattle.serial.proofs.Exchange.Top.{top, top-zero, top-next, top-last}
-use Rattle.serial.proofs.Exchange.Core.{Receiver, Side, Pair, plain, push, moved, waits, withEngine, acted, masterSide, slaveSide, coreCycle, busy}
-use Rattle.serial.proofs.Exchange.Settle.{Two, at, onward, slotStep, next, Live, Settled, rested, mk}
+use Rattle.serial.proofs.Exchange.Trace.{Trace, none, iterate, trace-count, trace-then, trace-end}
+use Rattle.serial.proofs.Exchange.Top.{top, top-zero}
+use Rattle.serial.proofs.Exchange.Core.{Receiver, Side, plain, push, moved, waits, acted, masterSide, slaveSide, coreCycle}
+use Rattle.serial.proofs.WithinSlot.{nextSlot}
+use Rattle.serial.proofs.Exchange.Settle.{Two, slotStep, rested, mk}
 use Rattle.serial.proofs.Exchange.Quiet.{quiet-ti}
 use Rattle.serial.proofs.Exchange.Events.{lowAt, ti-drive, ti-capture, ti-last, ti-levels-even, ti-levels-odd}
-use Rattle.serial.proofs.Exchange.Moves.{Queues, shown, hidden, sending, shifted, acted-by, onward-in, capture-in, completed, capture-last, slave-by, Slot, slot-of, Going, going}
+use Rattle.serial.proofs.Exchange.Moves.{Queues, shown, hidden, sending, shifted, acted-by, next-in, capture-in, completed, capture-last, slave-by, Slot, slot-of, LiveSlot, slot-then}
 use Rattle.serial.proofs.Exchange.Motorola.{received, next-bit, last-bit}
 use Rattle.serial.proofs.Exchange.Ends.{front, holding, waits-cons, pushAll, answers, Holds, Exchange}
 use Rattle.serial.specs.declared.engine.Engine.{Engine}
@@ -34,7 +35,7 @@ use Rattle.serial.specs.declared.engine.Step.{Step}
 use Rattle.serial.specs.declared.lines.Lines.{Lines}
 use Rattle.serial.specs.declared.lines.Pins.{Pins}
 use Rattle.serial.specs.declared.slots.Levels.{Levels}
-use Rattle.serial.specs.declared.slots.Event.the-variants.{Begin, Drive, First, Capture, JoinDrive, JoinCapture}
+use Rattle.serial.specs.declared.slots.Event.the-variants.{Drive, First, Capture, JoinDrive, JoinCapture}
 
 -- The lines ------------------------------------------------------------------------------------------------------------
 
@@ -164,7 +165,7 @@ module _ (phase : Bool) (b h : ℕ) where
       slot-of sm ss (idle (holding (w ∷ ws) q vs r)) (record { tx = ws; rx = q; engine = sending 0 (loaded w); lines = lined true true false true })
       (openedAt w (holding ws q vs r) .m) (openedAt w (holding ws q vs r) .s) (openedAt w (holding ws q vs r) .s)
       (open-acts w ws q false)
-      (onward-in sm 0 (loaded w) ws q _ (omega arith))
+      (next-in sm 0 (loaded w) ws q _ (omega arith))
       (slave-by ss (wire tiIdle) (wire (lined true true false true)) (idle (holding (w ∷ ws) q vs r) .s) (noWord cleared) cleared hidden refl refl refl)
       (calm vs r cleared hidden hidden true true false true refl refl) refl
 
@@ -175,7 +176,7 @@ module _ (phase : Bool) (b h : ℕ) where
       slot-of sm ss (openedAt w k) (record { tx = k .mtx; rx = k .mrx; engine = sending 1 (loaded w); lines = lined false true false true })
       (markedAt w k 0 false 0 true .m) (markedAt w k 0 false 0 true .s) (markedAt w k 0 false 0 true .s)
       (acted-by sm 1 (loaded w) (k .mtx) (k .mrx) _ _ false JoinCapture (noWord (sending 1 (loaded w))) refl refl refl)
-      (onward-in sm 1 (loaded w) (k .mtx) (k .mrx) _ (omega arith))
+      (next-in sm 1 (loaded w) (k .mtx) (k .mrx) _ (omega arith))
       (slave-by ss (wire (lined true true false true)) (wire (lined false true false true)) (openedAt w k .s) (noWord marking) marking hidden refl refl refl)
       (calm (k .stx) (k .srx) marking hidden hidden false true false true refl refl) refl
 
@@ -191,7 +192,7 @@ module _ (phase : Bool) (b h : ℕ) where
       (slot-of sm ss (markedAt w (holding ws q vs r) c d g e) (record { tx = ws; rx = q; engine = sending 2 x; lines = bitLines true false (bitOf b w 0) })
       (record { tx = ws; rx = q; engine = sending 3 x; lines = bitLines true false (bitOf b w 0) }) y y
       (acted-by sm 2 (shifted c d w g) ws q _ _ false First (noWord (sending 2 x)) refl refl (lines-at 2 x true (ti-levels-even false 2 0 refl)))
-      (onward-in sm 2 x ws q _ (omega arith))
+      (next-in sm 2 x ws q _ (omega arith))
       (slave-by ss (wire (lined false true d e)) (wire (bitLines true false (bitOf b w 0))) (markedAt w (holding ws q vs r) c d g e .s)
       (record { engine = sending 0 x′; takes = true; complete = false; word = 0 }) (sending 0 x′) (shown (bitOf b (front vs) 0)) (slave-takes d e (bitOf b w 0) (front vs)) (in-word x′ l) refl)
       (calm (rest vs) r (sending 0 x′) _ _ true false (bitOf b w 0) false (in-word x′ l) refl) refl)
@@ -209,7 +210,7 @@ module _ (phase : Bool) (b h : ℕ) where
         (acted-by sm n x0 (k .mtx) (k .mrx) _ _ (bitOf b v c && true) Capture (noWord (sending n x)) (ti-capture b n c e)
         (capture-in b (bitOf b v c && true) (sending n x0) l ∙ ap (λ (r : ℕ). noWord (sending n (shifted (c + 1) (bitOf b w c) w r))) (next-bit b v c (omega arith) m))
         (lines-at n x false (ti-levels-odd _ n c e)))
-        (onward-in sm n x (k .mtx) (k .mrx) _ (omega arith))
+        (next-in sm n x (k .mtx) (k .mrx) _ (omega arith))
         (slave-by ss _ _ (drivenAt w v w k c n false .s) (noWord (sending 0 x′)) (sending 0 x′) (shown (bitOf b v c))
         (slave-captures y0 false (bitOf b w c) (bitOf b w c) _
         ∙ capture-in b (bitOf b w c && true) (sending 0 y0) l ∙ ap (λ (r : ℕ). noWord (sending 0 (shifted (c + 1) (bitOf b v c) v r))) (next-bit b w c (omega arith) m))
@@ -226,17 +227,17 @@ module _ (phase : Bool) (b h : ℕ) where
         let x′ = shifted (c + 1) (bitOf b v (c + 1)) v (top b w (c + 1)) in
         slot-of sm ss (capturedAt w v k c n) (record { tx = k .mtx; rx = k .mrx; engine = sending n x; lines = bitLines true false (bitOf b w (c + 1)) }) (drivenAt w v w k (c + 1) (n + 1) false .m) (drivenAt w v w k (c + 1) (n + 1) false .s) (drivenAt w v w k (c + 1) (n + 1) false .s)
         (acted-by sm n x0 (k .mtx) (k .mrx) _ _ (bitOf b v c && true) (Drive (c + 1)) (noWord (sending n x)) (ti-drive b n (c + 1) e (omega arith) (omega arith)) refl (lines-at n x true (ti-levels-even _ n (c + 1) e)))
-        (onward-in sm n x (k .mtx) (k .mrx) _ (omega arith))
+        (next-in sm n x (k .mtx) (k .mrx) _ (omega arith))
         (slave-by ss _ _ (capturedAt w v k c n .s) (noWord (sending 0 x′)) (sending 0 x′) (shown (bitOf b v (c + 1))) (slave-drives y0 false (bitOf b w c) (bitOf b w (c + 1)) _) (in-word x′ (omega arith)) refl)
         (calm (k .stx) (k .srx) (sending 0 x′) _ _ true false (bitOf b w (c + 1)) false (in-word x′ (omega arith)) refl) refl
 
     bits-run : (j c d n o : ℕ) → c + j ≡ d → n + 2 * j ≡ o → n ≡ 2 * c + 3 → d + 1 < b
-        → Trace (Going sm ss) (slotStep sm ss) (2 * j) (drivenAt w v w k c n false) (drivenAt w v w k d o false)
+        → Trace (LiveSlot sm ss) (slotStep sm ss) (2 * j) (drivenAt w v w k c n false) (drivenAt w v w k d o false)
     bits-run zero c d n o p q e l = trace-end none (ap₂ (λ (x y : ℕ). drivenAt w v w k x y false) (omega arith) (omega arith))
     bits-run (suc j) c d n o p q e l =
         trace-count (omega arith)
-        (going (capture-slot c n e (omega arith)) refl refl refl
-        (going (drive-slot c (n + 1) (omega arith) (omega arith)) refl refl refl
+        (slot-then (capture-slot c n e (omega arith)) refl
+        (slot-then (drive-slot c (n + 1) (omega arith) (omega arith)) refl
         (bits-run j (c + 1) d (n + 1 + 1) o (omega arith) (omega arith) (omega arith) l)))
 
   -- the last bit, with no word behind it
@@ -253,7 +254,7 @@ module _ (phase : Bool) (b h : ℕ) where
       let i : b - 1 ≡ c + 1 = omega arith in
       slot-of sm ss (capturedAt w v k c n) (record { tx = []; rx = q; engine = sending n x; lines = bitLines true false (bitOf b w (c + 1)) }) (drivenAt w v w k (c + 1) (n + 1) false .m) (drivenAt w v w k (c + 1) (n + 1) false .s) (drivenAt w v w k (c + 1) (n + 1) false .s)
       (acted-by sm n x0 [] q _ _ (bitOf b v c && true) (JoinDrive (c + 1)) (noWord (sending n x)) (ti-last b n (omega arith) (omega arith) ∙ ap JoinDrive i) refl (lines-at n x true (ti-levels-even _ n (c + 1) e)))
-      (onward-in sm n x [] q _ (omega arith))
+      (next-in sm n x [] q _ (omega arith))
       (slave-by ss _ _ (capturedAt w v k c n .s) (noWord (sending 0 x′)) (sending 0 x′) (shown (bitOf b v (c + 1))) (slave-drives y0 false (bitOf b w c) (bitOf b w (c + 1)) _) (in-word x′ (omega arith)) refl)
       (calm vs r (sending 0 x′) _ _ true false (bitOf b w (c + 1)) false (in-word x′ (omega arith)) refl) refl
 
@@ -274,7 +275,7 @@ module _ (phase : Bool) (b h : ℕ) where
       (acted-by sm n x0 (u ∷ ws) q _ _ (bitOf b v c && true) (JoinDrive (c + 1)) (begun (sending 0 x0) x) (ti-last b n (omega arith) (omega arith) ∙ ap JoinDrive i)
       (ap (λ (t : Bool). pick t (begun (sending 0 x0) x) (noWord (withShift (sending n x0) (driven b (c + 1) x0)))) (waits-cons u ws))
       (lines-joined 0 x true (ne-eqb (c + 1) 0 (omega arith)) refl))
-      (onward-in sm 0 x ws q _ (omega arith))
+      (next-in sm 0 x ws q _ (omega arith))
       (slave-by ss _ _ (capturedAt w v k c n .s) (noWord (sending 0 x′)) (sending 0 x′) (shown (bitOf b v (c + 1))) (slave-drives y0 true (bitOf b w c) (bitOf b w (c + 1)) _) (in-word x′ (omega arith)) refl)
       (calm vs r (sending 0 x′) _ _ true true (bitOf b w (c + 1)) false (in-word x′ (omega arith)) refl) refl
 
@@ -282,7 +283,7 @@ module _ (phase : Bool) (b h : ℕ) where
   last-capture : (w v : ℕ) (q : Receiver) (vs : List ℕ) (r : Receiver) (c n : ℕ) → b ≤ 16 → n ≡ 2 * c + 3 → c + 1 ≡ b
       → Slot sm ss (drivenAt w v w (holding [] q vs r) c n false) (record { tx = []; rx = push (cut b v) q; engine = sending n (shifted (c + 1) (bitOf b w c) w (cut b v)); lines = bitLines false false (bitOf b w c) })
       (doneAt (received b w v (holding [] q vs r)) (bitOf b w c))
-  unfolding eventOf dataBit wire lastSlot onward slaveLines slaveEnd
+  unfolding eventOf dataBit wire lastSlot nextSlot slaveLines slaveEnd
   last-capture w v q vs r c n m e l =
       let k = holding [] q vs r in
       let x0 = shifted c (bitOf b w c) w (top b v c) in
@@ -312,7 +313,7 @@ module _ (phase : Bool) (b h : ℕ) where
       (acted-by sm 1 x0 (k .mtx) (k .mrx) _ _ (bitOf b v c && true) JoinCapture (completed (sending 1 x0) (cut b v)) refl
       (ap (λ (u : Bool). pick u (noWord (sending 1 x0)) (captureStep b (bitOf b v c && true) (sending 1 x0))) (ne-eqb c 0 (omega arith)) ∙ capture-last b (bitOf b v c && true) (sending 1 x0) v l (last-bit b v c l m))
       (lines-joined 1 x false (ne-eqb (c + 1) 0 (omega arith)) refl))
-      (onward-in sm 1 x (k .mtx) (push (cut b v) (k .mrx)) _ (omega arith))
+      (next-in sm 1 x (k .mtx) (push (cut b v) (k .mrx)) _ (omega arith))
       (slave-by ss _ _ (drivenAt w v u k c 1 true .s) (completed (withMark (sending 0 y0) true) (cut b w)) marking (shown (bitOf b v c))
       (slave-joins y0 (bitOf b w c) (bitOf b w c) _ l ∙ capture-last b (bitOf b w c && true) (withMark (sending 0 y0) true) w l (last-bit b w c l m))
       (rw (le-leb b (c + 1) (omega arith))) refl)
@@ -323,13 +324,13 @@ module _ (phase : Bool) (b h : ℕ) where
   module _ (l : 3 < b) (m : b ≤ 16) where
     -- a word, from its mark to the capture before its last
     word-run : (w : ℕ) (ws : List ℕ) (q : Receiver) (vs : List ℕ) (r : Receiver) (c : ℕ) (d : Bool) (g : ℕ) (e : Bool)
-        → Trace (Going sm ss) (slotStep sm ss) (2 * b - 2) (markedAt w (holding ws q vs r) c d g e) (capturedAt w (front vs) (holding ws q (rest vs) r) (b - 2) (2 * b))
+        → Trace (LiveSlot sm ss) (slotStep sm ss) (2 * b - 2) (markedAt w (holding ws q vs r) c d g e) (capturedAt w (front vs) (holding ws q (rest vs) r) (b - 2) (2 * b))
     word-run w ws q vs r c d g e =
         let k = holding ws q (rest vs) r in
         trace-count (omega arith)
-        (going (first-slot w ws q vs r c d g e (omega arith)) refl refl refl
+        (slot-then (first-slot w ws q vs r c d g e (omega arith)) refl
         (trace-then (bits-run w (front vs) k m (b - 2) 0 (b - 2) 3 (2 * b - 1) (omega arith) (omega arith) (omega arith) (omega arith))
-        (going (capture-slot w (front vs) k m (b - 2) (2 * b - 1) (omega arith) (omega arith)) refl refl refl
+        (slot-then (capture-slot w (front vs) k m (b - 2) (2 * b - 1) (omega arith) (omega arith)) refl
         (trace-end none (ap (capturedAt w (front vs) k (b - 2)) (omega arith))))))
 
     abbrev lastOf : ℕ → List ℕ → Receiver → List ℕ → Receiver → Two
@@ -337,25 +338,25 @@ module _ (phase : Bool) (b h : ℕ) where
     lastOf w (u ∷ ws) q vs r = lastOf u ws (push (cut b (front vs)) q) (rest vs) (push (cut b w) r)
 
     words-run : (w : ℕ) (ws : List ℕ) (q : Receiver) (vs : List ℕ) (r : Receiver) (c : ℕ) (d : Bool) (g : ℕ) (e : Bool)
-        → Trace (Going sm ss) (slotStep sm ss) (suc (length ws) * (2 * b)) (markedAt w (holding ws q vs r) c d g e) (lastOf w ws q vs r)
+        → Trace (LiveSlot sm ss) (slotStep sm ss) (suc (length ws) * (2 * b)) (markedAt w (holding ws q vs r) c d g e) (lastOf w ws q vs r)
     words-run w [] q vs r c d g e =
         trace-count (omega arith)
         (trace-then (word-run w [] q vs r c d g e)
-        (going (last-drive w (front vs) q (rest vs) r (b - 2) (2 * b) (omega arith) (omega arith)) refl refl refl
-        (going (last-capture w (front vs) q (rest vs) r (b - 2 + 1) (2 * b + 1) m (omega arith) (omega arith)) refl refl refl none)))
+        (slot-then (last-drive w (front vs) q (rest vs) r (b - 2) (2 * b) (omega arith) (omega arith)) refl
+        (slot-then (last-capture w (front vs) q (rest vs) r (b - 2 + 1) (2 * b + 1) m (omega arith) (omega arith)) refl none)))
     words-run w (u ∷ ws) q vs r c d g e =
         trace-count (omega arith)
         (trace-then (word-run w (u ∷ ws) q vs r c d g e)
-        (going (chain-drive w (front vs) u ws q (rest vs) r (b - 2) (2 * b) (omega arith) (omega arith)) refl refl refl
-        (going (chain-capture w (front vs) u (holding ws q (rest vs) r) (b - 2 + 1) m (omega arith) (omega arith)) refl refl refl
+        (slot-then (chain-drive w (front vs) u ws q (rest vs) r (b - 2) (2 * b) (omega arith) (omega arith)) refl
+        (slot-then (chain-capture w (front vs) u (holding ws q (rest vs) r) (b - 2 + 1) m (omega arith) (omega arith)) refl
         (words-run u ws (push (cut b (front vs)) q) (rest vs) (push (cut b w) r) (b - 2 + 1 + 1) (bitOf b w (b - 2 + 1)) (cut b (front vs)) false))))
 
     load-run : (w : ℕ) (ws : List ℕ) (q : Receiver) (vs : List ℕ) (r : Receiver)
-        → Trace (Going sm ss) (slotStep sm ss) (2 * b * suc (length ws) + 2) (idle (holding (w ∷ ws) q vs r)) (lastOf w ws q vs r)
+        → Trace (LiveSlot sm ss) (slotStep sm ss) (2 * b * suc (length ws) + 2) (idle (holding (w ∷ ws) q vs r)) (lastOf w ws q vs r)
     load-run w ws q vs r =
         trace-count (omega arith)
-        (going (open-slot w ws q vs r) refl (waits-cons w ws) refl
-        (going (mark-slot w (holding ws q vs r) (omega arith)) refl refl refl
+        (slot-then (open-slot w ws q vs r) refl
+        (slot-then (mark-slot w (holding ws q vs r) (omega arith)) refl
         (words-run w ws q vs r 0 false 0 true)))
 
     abbrev quietPins : Bool → Bool → Pins
@@ -376,15 +377,11 @@ module _ (phase : Bool) (b h : ℕ) where
         done-ever i (push (cut b (front vs)) q) (rest vs) (push (cut b w) r) d false false (d && true) false (d && true) false (d && true)
     last-ever w (u ∷ ws) q vs r i = last-ever u ws (push (cut b (front vs)) q) (rest vs) (push (cut b w) r) i
 
-    last-free : (w : ℕ) (ws : List ℕ) (q : Receiver) (vs : List ℕ) (r : Receiver) → busy (lastOf w ws q vs r .m) ≡ false
-    last-free w [] q vs r = refl
-    last-free w (u ∷ ws) q vs r = last-free u ws (push (cut b (front vs)) q) (rest vs) (push (cut b w) r)
-
     idle-stays : (q : Receiver) (vs : List ℕ) (r : Receiver) → coreCycle sm ss (rested (idle (holding [] q vs r))) ≡ rested (idle (holding [] q vs r))
     unfolding coreCycle masterSide acted masterStep masterEnd acting resting masterLines slaveLines slaveEnd slaveStep tiSlave slaveSide wire
     idle-stays q vs r = refl
 
-    pub exchange : Exchange (plain Ti phase b h false) (plain Ti phase b h true) b (lined false false false true) (λ n. 2 * b * suc n + 2) 0
+    pub exchange : Exchange (plain Ti phase b h false) (plain Ti phase b h true) b (lined false false false true) (λ n. 2 * b * suc n + 2)
     unfolding slaveSide slaveStep tiSlave slaveEnd slaveLines wire
     exchange =
         record {
@@ -392,9 +389,6 @@ module _ (phase : Bool) (b h : ℕ) where
           settled = λ k. refl;
           holds = λ k. (refl, refl);
           run = load-run;
-          hold = λ w ws q vs r i k. absurd (omega arith);
-          free = last-free;
           ever = last-ever;
           rest = idle-stays;
-          unbusy = λ q vs r. refl;
         }

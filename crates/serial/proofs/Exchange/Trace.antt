@@ -1,8 +1,7 @@
 -- Repeated steps, and traces: so many steps of f lead from x to y, and every state on the way meets P.
 use mathlib.Core.Path.{_≡_, refl, sym, ap, _∙_, subst}
-use Prim.Native.Nat.{ℕ, zero, suc, _+_, _*_, _<_}
-use native.Mathlib.Nat.{zero-add, suc-add, not-suc-le-zero, le-of-suc-le-suc}
-use native.Mathlib.Omega.{arith}
+use Prim.Native.Nat.{ℕ, zero, suc, _+_}
+use native.Mathlib.Nat.{zero-add, suc-add}
 
 abbrev pub iterate : {A : Type 0} → ℕ → (A → A) → A → A
 iterate zero f x = x
@@ -40,12 +39,6 @@ module _ {A : Type 0} {P : A → Type 0} {f : A → A} where
   pub trace-run : {n : ℕ} {x y : A} → Trace P f n x y → iterate n f x ≡ y
   trace-run none = refl
   trace-run (more {n = n} p e t) = ap (iterate n f) e ∙ trace-run t
-
-  -- what it says of the states on the way
-  pub trace-at : {n : ℕ} {x y : A} → Trace P f n x y → (i : ℕ) → i < n → P (iterate i f x)
-  trace-at none i l = absurd (not-suc-le-zero l)
-  trace-at (more p e t) zero l = p
-  trace-at (more {x = x} p e t) (suc i) l = subst (λ (z : A). P (iterate i f z)) (sym e) (trace-at t i (le-of-suc-le-suc l))
 
   -- a trace to a state that stays says it of all states
   pub trace-ever : {n : ℕ} {x y : A} → Trace P f n x y → P y → f y ≡ y → (i : ℕ) → P (iterate i f x)
