@@ -8,3 +8,4 @@ pub mod Inputs
 pub mod Exchange
 pub mod Drawing
 pub mod Recordings
+pub mod Premises
