@@ -1,5 +1,6 @@
 mod Words
 mod Wiring
+pub mod Swap
 pub mod Accesses
 pub mod Status
 pub mod Cycles
