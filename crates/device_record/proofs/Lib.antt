@@ -5,3 +5,5 @@ pub mod RoundTrip
 pub mod Examples
 pub mod Histories
 pub mod Demand3
+pub mod Swap
+pub mod Polling

@@ -1,13 +1,15 @@
--- Demand 3 over the bytes of records, as a statement: steps played by what the calls leave. proofs/Demand3.antt proves both parts.
+-- Demand 3 over the bytes of records, as a statement: steps played by what the calls leave. proofs/Demand3.antt proves both parts, proofs/Swap.antt the first one for records in the other order.
 use Prim.Native.Nat.{ℕ, _≤_}
 use mathlib.Core.Path.{_≡_}
 use mathlib.Core.Bool.{true}
 use mathlib.Core.List.{List, [], _∷_, _++_, map}
+use Rattle.registers.specs.Offsets.{registerOf}
+use Rattle.registers.specs.declared.offsets.Register.the-variants.{Dr}
 use Rattle.registers.specs.declared.settings.Settings.{Settings}
 use Rattle.serial.specs.Bits.{cut}
 use Rattle.serial.specs.Lines.{pinsOf}
 use Rattle.serial.specs.Slots.{widthOf}
-use Rattle.serial.specs.Pair.{PairModel, pairRun}
+use Rattle.serial.specs.Pair.{PairModel, pairRun, swapped}
 use Rattle.serial.specs.Demand3.{Step, plays, cyclesIn, Stays, Start, Exchanged, slaveOn, enables, Enabling, WholeLoad}
 use Rattle.serial.specs.Demand3.Which.{master, slave}
 use Rattle.serial.specs.Demand3.Step.{cycle, read, write}
@@ -63,3 +65,44 @@ LastSentenceRecords =
     → WholeLoad s (decode (writeLeft b o v)) (map pinsOf ins) → WholeLoad s (decode (writeLeft b′ o′ v′)) (map pinsOf ins′)
     → outputs (decode (writeLeft b o v)) ins ≡ outputs (decode (writeLeft b′ o′ v′)) ins′
     → map (cut (widthOf s)) (decode (writeLeft b o v) .registers .tx) ≡ map (cut (widthOf s)) (decode (writeLeft b′ o′ v′) .registers .tx)
+
+-- The other order ------------------------------------------------------------------------------------------------------
+
+-- Two records in the other order.
+abbrev pub swappedRecords : Records → Records
+swappedRecords r = record { one = r .two; two = r .one }
+
+-- What each step leaves where the slave's record is the first and the master's the second, in a pair run too.
+abbrev pub playSwapped : Step → Records → Records
+playSwapped cycle r = runBytes 1 r
+playSwapped (read master o) r = record { one = r .one; two = readLeft (r .two) o }
+playSwapped (read slave o) r = record { one = readLeft (r .one) o; two = r .two }
+playSwapped (write master o v) r = record { one = r .one; two = writeLeft (r .two) o v }
+playSwapped (write slave o v) r = record { one = writeLeft (r .one) o v; two = r .two }
+
+-- What a list of them leaves.
+abbrev pub playsSwapped : List Step → Records → Records
+playsSwapped [] r = r
+playsSwapped (x ∷ xs) r = playsSwapped xs (playSwapped x r)
+
+-- Such records whose devices exchange their words, pair run by pair run with the slave's record first.
+pub record ExchangedSwapped (r : Records) : Type 0 where
+  pub sound : SoundRecords r
+  pub exchanged : Exchanged (swapped (devicesOf r))
+  pub after : (n : ℕ) → swapped (devicesOf (runBytes n r)) ≡ pairRun n (swapped (devicesOf r))
+
+-- The first part with the slave's record first: the master of the steps and of the premises is the second record's device.
+abbrev pub Demand3Swapped : Type 0
+Demand3Swapped =
+    (r : Records) (pre mid : List Step) → SoundRecords r → Start (swapped (devicesOf r)) → 4 ≤ cyclesIn pre
+    → Stays pre (swapped (devicesOf r)) → Stays mid (slaveOn pre (swapped (devicesOf r)))
+    → ExchangedSwapped (playsSwapped (steps pre mid (swapped (devicesOf r))) r)
+
+-- Polling --------------------------------------------------------------------------------------------------------------
+
+-- Steps of a host that polls: pair cycles, and reads of other registers than DR.
+abbrev pub Polls : List Step → Type 0
+Polls [] = Unit {0}
+Polls (cycle ∷ xs) = Polls xs
+Polls (read d o ∷ xs) = (registerOf o ≡ Dr → ⊥) × Polls xs
+Polls (write d o v ∷ xs) = ⊥

@@ -1,4 +1,4 @@
--- Accesses to a device: their refusal numbers are at most 8, and a refused one changes nothing.
+-- Accesses to a device: their refusal numbers are at most 8, and neither a refused one nor a read of another register than DR changes anything.
 use Prim.Native.Nat.{ℕ, _≤_}
 use mathlib.Core.Path.{_≡_, refl, sym, ap, _∙_}
 use mathlib.Core.Bool.{Bool, true, false, not, _&&_, _||_, true≢false}
@@ -15,7 +15,7 @@ use Rattle.registers.specs.declared.access.Answer.the-variants.{Word, Refused}
 use Rattle.registers.specs.declared.offsets.Register.{Register}
 use Rattle.registers.specs.declared.offsets.Register.the-variants.{Cr0, Cr1, Dr, Sr, Cpsr, Imsc, Ris, Mis, Icr, Dmacr, Identity, Reserved, Outside}
 use Rattle.serial.specs.Cycle.{DeviceModel}
-use Rattle.registers.proofs.Picks.{pick-no}
+use Rattle.registers.proofs.Picks.{pick-no, pick-both}
 use Rattle.serial.specs.Engine.{cleared}
 use Rattle.serial.specs.Access.{readAnswerOf, readDevice, writeRefusalOf, engineAfter, writeDevice}
 use Rattle.serial.specs.declared.engine.Engine.{Engine}
@@ -125,3 +125,28 @@ write-same d o v h =
     let m = d .registers in
     ap (λ (x : Model). record { registers = x; engine = engineAfter m x (d .engine); pins = d .pins; lines = d .lines }) (pick-no (writeDone m (registerOf o) v) m h)
     ∙ ap (λ (e : Engine). record { registers = m; engine = e; pins = d .pins; lines = d .lines }) (same-engine m (d .engine))
+
+-- A read of another register than DR changes nothing: a host may poll SR -----------------------------------------------
+
+read-done-same : (m : Model) (p : Register) → (p ≡ Dr → ⊥) → readDone m p ≡ m
+read-done-same m Cr0 h = refl
+read-done-same m Cr1 h = refl
+read-done-same m Dr h = absurd (h refl)
+read-done-same m Sr h = refl
+read-done-same m Cpsr h = refl
+read-done-same m Imsc h = refl
+read-done-same m Ris h = refl
+read-done-same m Mis h = refl
+read-done-same m Icr h = refl
+read-done-same m Dmacr h = refl
+read-done-same m (Identity i) h = refl
+read-done-same m Reserved h = refl
+read-done-same m Outside h = refl
+
+pub read-other-same : (d : DeviceModel) (o : ℕ) → (registerOf o ≡ Dr → ⊥) → readDevice d o ≡ d
+unfolding readDevice readModel
+read-other-same d o h =
+    let m = d .registers in
+    let p = registerOf o in
+    ap (λ (x : Model). record { registers = x; engine = d .engine; pins = d .pins; lines = d .lines })
+    (pick-both (λ (x : Model). x ≡ m) (eqb (readRefusal m p) 0) (readDone m p) m (λ _. read-done-same m p h) (λ _. refl))

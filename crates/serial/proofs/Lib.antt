@@ -1,5 +1,6 @@
 mod Words
 mod Wiring
+pub mod Swap
 pub mod Accesses
 pub mod Status
 pub mod Cycles
@@ -10,3 +11,4 @@ pub mod WithinSlot
 pub mod Exchange
 pub mod Drawing
 pub mod Recordings
+pub mod Premises

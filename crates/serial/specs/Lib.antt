@@ -12,3 +12,4 @@ pub mod Pair
 pub mod Drawing
 pub mod Demand3
 pub mod Recordings
+pub mod Premises

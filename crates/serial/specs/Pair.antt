@@ -24,6 +24,10 @@ abbrev pub pairRun : ℕ → PairModel → PairModel
 pairRun zero p = p
 pairRun (suc n) p = pairRun n (pairCycle p)
 
+-- The two devices in the other order.
+abbrev pub swapped : PairModel → PairModel
+swapped p = record { first = p .second; second = p .first }
+
 -- Two devices of the code as the definitions see them.
 unfoldable pub pairOf : Wired → PairModel
 pairOf w = record { first = deviceOf (w .first); second = deviceOf (w .second) }

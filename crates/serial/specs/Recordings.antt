@@ -138,21 +138,21 @@ held (w ∷ ws) = Read DR (Word w) ∷ held ws
 unfoldable pub setUp : ℕ → List ℕ → ℕ → List Step → List Step
 setUp cr0 ws cr1 more = Write CR0 cr0 done ∷ Write CPSR 2 done ∷ words ws (Write CR1 cr1 done ∷ more)
 
--- b = 4 is DSS 3. SR 7: RNE, TNF, TFE; SR F: RFF too. RIS C: TX, RX; RIS D: ROR too.
+-- b = 4 is DSS 3. SR 7: RNE, TNF, TFE, and BSY 0; SR F: RFF too. RIS C: TX, RX; RIS D: ROR too.
 unfoldable pub table : List Row
 table =
     -- P1 Motorola SPH 0, word A; the same with SPO 1, bit 0 flipped
-    P 1 (setUp 0x03 (0xA ∷ []) enabled (Run low 12 0x0450145010AA ∷ []))
-    ∷ P 1 (setUp 0x43 (0xA ∷ []) enabled (Run low 12 0x1541054101BB ∷ []))
+    P 1 (setUp 0x03 (0xA ∷ []) enabled (Run low 12 0x0450145010AA ∷ Read SR (Word 0x7) ∷ []))
+    ∷ P 1 (setUp 0x43 (0xA ∷ []) enabled (Run low 12 0x1541054101BB ∷ Read SR (Word 0x7) ∷ []))
     -- P2 SPH 1, word A; the same with SPO 1, bit 0 flipped
-    ∷ P 2 (setUp 0x83 (0xA ∷ []) enabled (Run low 12 0x0541054100AA ∷ []))
-    ∷ P 2 (setUp 0xC3 (0xA ∷ []) enabled (Run low 12 0x1450145011BB ∷ []))
+    ∷ P 2 (setUp 0x83 (0xA ∷ []) enabled (Run low 12 0x0541054100AA ∷ Read SR (Word 0x7) ∷ []))
+    ∷ P 2 (setUp 0xC3 (0xA ∷ []) enabled (Run low 12 0x1450145011BB ∷ Read SR (Word 0x7) ∷ []))
     -- P3 TI, word A
-    ∷ P 3 (setUp 0x13 (0xA ∷ []) enabled (Run low 10 0xBA54105410 ∷ []))
+    ∷ P 3 (setUp 0x13 (0xA ∷ []) enabled (Run low 10 0xBA54105410 ∷ Read SR (Word 0x7) ∷ []))
     -- P4 TI, words A, 5
-    ∷ P 4 (setUp 0x13 (0xA ∷ 0x5 ∷ []) enabled (Run low 18 0xBA5410543210541054 ∷ []))
+    ∷ P 4 (setUp 0x13 (0xA ∷ 0x5 ∷ []) enabled (Run low 18 0xBA5410543210541054 ∷ Read SR (Word 0x7) ∷ []))
     -- P5 Microwire, control A5
-    ∷ P 5 (setUp 0x23 (0xA5 ∷ []) enabled (Run low 29 0x450145010145014589898989898AA ∷ []))
+    ∷ P 5 (setUp 0x23 (0xA5 ∷ []) enabled (Run low 29 0x450145010145014589898989898AA ∷ Read SR (Word 0x7) ∷ []))
     -- P6 eight DR writes done, the ninth 7
     ∷ P 6 (words (1 ∷ 2 ∷ 3 ∷ 4 ∷ 5 ∷ 6 ∷ 7 ∷ 8 ∷ []) (Write DR 9 7 ∷ []))
     -- P7 seven held, one arrives: no ROR

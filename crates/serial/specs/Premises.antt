@@ -1,0 +1,80 @@
+-- Devices that meet the premises of demand 3: made from reset by writes, h = 6, b = 4, two different words to send in each load.
+use Prim.Native.Nat.{ℕ, _≤_}
+use mathlib.Core.Path.{_≡_}
+use mathlib.Core.Bool.{true, false}
+use mathlib.Core.List.{List, [], _∷_}
+use lib.ListN.{replicate}
+use Rattle.registers.specs.Time.{divisor}
+use Rattle.registers.specs.declared.settings.Format.the-variants.{Motorola}
+use Rattle.registers.specs.declared.settings.Settings.{Settings}
+use Rattle.serial.specs.Cycle.{DeviceModel, lowPins, resetDevice}
+use Rattle.serial.specs.Access.{writeDevice}
+use Rattle.serial.specs.Pair.{PairModel}
+use Rattle.serial.specs.Demand3.{Step, cyclesIn, Stays, Start, load, slaveOn, masterOn, Enabling, WholeLoad}
+use Rattle.serial.specs.Demand3.Which.{master, slave}
+use Rattle.serial.specs.Demand3.Step.{cycle, read}
+use Rattle.serial.specs.declared.lines.Pins.{Pins}
+use Rattle.serial.specs.Recordings.{CR0, CR1, DR, SR, CPSR}
+
+-- After reset, CR0 for Motorola SPH 0 and b = 4, CPSR and CR1 are written, then two words to send.
+abbrev pub prepared : ℕ → ℕ → ℕ → ℕ → DeviceModel
+prepared cpsr cr1 v w = writeDevice (writeDevice (writeDevice (writeDevice (writeDevice resetDevice CR0 0x03) CPSR cpsr) CR1 cr1) DR v) DR w
+
+-- A master, its CPSR 12: h = 6.
+abbrev pub preparedMaster : ℕ → ℕ → DeviceModel
+preparedMaster v w = prepared 12 0x0 v w
+
+-- A slave: MS.
+abbrev pub preparedSlave : ℕ → ℕ → DeviceModel
+preparedSlave v w = prepared 2 0x4 v w
+
+-- The first part -------------------------------------------------------------------------------------------------------
+
+-- A master with the words A, 5 and a slave with 3, C.
+abbrev pub preparedPair : PairModel
+preparedPair = record { first = preparedMaster 0xA 0x5; second = preparedSlave 0x3 0xC }
+
+-- Four cycles before the slave's enabling.
+abbrev pub before : List Step
+before = cycle ∷ cycle ∷ cycle ∷ cycle ∷ []
+
+-- A read of SR and a cycle before the master's.
+abbrev pub between : List Step
+between = read master SR ∷ cycle ∷ []
+
+-- The premises of the first part, and the loads at the master's enabling.
+pub record PairPremises : Type 0 where
+  pub start : Start preparedPair
+  pub four : 4 ≤ cyclesIn before
+  pub stays-before : Stays before preparedPair
+  pub stays-between : Stays between (slaveOn before preparedPair)
+  pub load-master : load master (masterOn before between preparedPair) ≡ 0xA ∷ 0x5 ∷ []
+  pub load-slave : load slave (masterOn before between preparedPair) ≡ 0x3 ∷ 0xC ∷ []
+
+-- The last sentence ----------------------------------------------------------------------------------------------------
+
+-- The settings of that master, enabled.
+abbrev pub enabledMaster : Settings
+enabledMaster =
+    record {
+      format = Motorola;
+      phase = false;
+      polarity = false;
+      bits = 4;
+      divisor = divisor 6;
+      slave = false;
+      sod = false;
+      loopback = false;
+      enabled = true;
+    }
+
+-- Pins LOW for the slot total times h cycles: 2(2b + 4) slots, 144 cycles.
+abbrev pub lowInputs : List Pins
+lowInputs = replicate 144 lowPins
+
+-- The premises of the last sentence on the loads A, 5 and 3, C: CR1 is written with SSE.
+pub record LastPremises : Type 0 where
+  pub one : Enabling enabledMaster (preparedMaster 0xA 0x5) CR1 0x2
+  pub other : Enabling enabledMaster (preparedMaster 0x3 0xC) CR1 0x2
+  pub whole-one : WholeLoad enabledMaster (writeDevice (preparedMaster 0xA 0x5) CR1 0x2) lowInputs
+  pub whole-other : WholeLoad enabledMaster (writeDevice (preparedMaster 0x3 0xC) CR1 0x2) lowInputs
