@@ -11,7 +11,7 @@ use Rattle.registers.specs.Access.{readModel, cr0Rule, cr1Rule, cpsrRule, drRul
 use Rattle.registers.specs.Transfer.{added, endCycle}
 use Rattle.registers.specs.Sound.{controlSound, masksSound, queuesSound, countSound, soundRegisters}
 use Rattle.serial.specs.Slave.{motorolaSelect, captureEdge, driveEdge, motorolaClock, motorolaEdges, motorolaSlave, slaveStep}
-use Rattle.serial.specs.Lines.{masterLines, linesOf}
+use Rattle.serial.specs.Lines.{masterLines, linesOf, masterTxd}
 use Rattle.serial.specs.Cycle.{stepOf, endOf, takeIf, receiveIf, deviceStep, cycleOf}
 use Rattle.serial.specs.Access.{readDevice, engineAfter, writeDevice}
 use Rattle.serial.specs.Sound.{stoppedSound, engineSound, soundDevice}
@@ -21,7 +21,7 @@ use Rattle.serial.specs.Premises.{PairPremises, LastPremises}
 
 -- Those of the first part.
 pub pair-premises : PairPremises
-unfolding soundDevice soundRegisters controlSound masksSound queuesSound countSound engineSound stoppedSound settingsOf formatOf permittedOf bitsOf divisorOf enabledOf registerOf readDevice readModel writeDevice writeModel writeRefusal cr0Rule cr1Rule cpsrRule drRule cr0Written cr1Written cpsrWritten drWritten added engineAfter pairCycle wire cycleOf deviceStep stepOf endOf takeIf receiveIf endCycle linesOf masterLines slaveStep motorolaSlave motorolaSelect motorolaEdges motorolaClock captureEdge driveEdge
+unfolding soundDevice soundRegisters controlSound masksSound queuesSound countSound engineSound stoppedSound settingsOf formatOf permittedOf bitsOf divisorOf enabledOf registerOf readDevice readModel writeDevice writeModel writeRefusal cr0Rule cr1Rule cpsrRule drRule cr0Written cr1Written cpsrWritten drWritten added engineAfter pairCycle wire cycleOf deviceStep stepOf endOf takeIf receiveIf endCycle linesOf masterLines masterTxd slaveStep motorolaSlave motorolaSelect motorolaEdges motorolaClock captureEdge driveEdge
 pair-premises =
     record {
       start =

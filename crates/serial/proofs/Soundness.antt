@@ -24,6 +24,7 @@ use Rattle.registers.specs.declared.settings.Settings.{Settings}
 use Rattle.serial.specs.Bits.{shiftedIn}
 use Rattle.serial.specs.Engine.{clearShift, cleared, withShift, loaded, started, driven, quieted, capturedOf, completes, noWord, captureStep}
 use Rattle.serial.specs.Slots.{motorolaEvent, tiEvent, microwireEvent, eventOn, eventOf, lastOn, lastSlot, widthOf}
+use Rattle.serial.specs.Lines.{masterTxd}
 use Rattle.serial.specs.Master.{joinedShift, act, resting, acting, dataBit, masterStep, ticked, masterEnd}
 use Rattle.serial.specs.Slave.{slaveTake, selectedOf, motorolaSelect, captureEdge, driveEdge, motorolaClock, motorolaEdges, motorolaSlave, withMark, tiFalls, tiRises, tiSlave, slaveOn, slaveStep, endedOn, slaveEnd}
 use Rattle.serial.specs.Cycle.{DeviceModel, resetDevice, stepOf, endOf, deviceStep, cycleOf}
@@ -195,7 +196,7 @@ module _ (F : Type 0) (s : Settings) where
   step-master : (e : Engine) (waiting : Bool) (next : ℕ) (rxd : Bool) → EngineFacts F s e → (F → next < 0x10000) → StepFacts F s (masterStep s e waiting next rxd)
   unfolding masterStep
   step-master e waiting next rxd t n =
-      step-pick (acting e waiting) _ _ (step-act e waiting next (dataBit s e rxd) (eventOf s (e .slot)) t n (event-lands s (e .slot .0))) (step-still e t)
+      step-pick (acting e waiting) _ _ (step-act e waiting next (dataBit s (masterTxd s e) rxd) (eventOf s (e .slot)) t n (event-lands s (e .slot .0))) (step-still e t)
 
   end-master : (e : Engine) → EngineFacts F s e → EngineFacts F s (masterEnd s e)
   unfolding masterEnd ticked
@@ -235,7 +236,7 @@ module _ (F : Type 0) (s : Settings) where
   step-edges : (r : Step) (before seen : Pins) (next : ℕ) → StepFacts F s r → (F → next < 0x10000) → StepFacts F s (motorolaEdges s r before seen next)
   unfolding motorolaEdges
   step-edges r before seen next t n =
-      let u = step-clock (r .engine) (captureEdge s before seen) (driveEdge s before seen) next (dataBit s (r .engine) (seen .rxd)) (t .engine) n in
+      let u = step-clock (r .engine) (captureEdge s before seen) (driveEdge s before seen) next (dataBit s (r .engine .shift .level) (seen .rxd)) (t .engine) n in
       step-pick (r .engine .selected) _ _ (record { engine = u .engine; word = u .word }) t
 
   step-motorola : (e : Engine) (before seen : Pins) (next : ℕ) → EngineFacts F s e → (F → next < 0x10000) → StepFacts F s (motorolaSlave s e before seen next)
@@ -264,7 +265,7 @@ module _ (F : Type 0) (s : Settings) where
   step-ti : (e : Engine) (before seen : Pins) (next : ℕ) → EngineFacts F s e → (F → next < 0x10000) → StepFacts F s (tiSlave s e before seen next)
   unfolding tiSlave
   step-ti e before seen next t n =
-      step-pick (before .clk && not (seen .clk)) _ _ (step-falls e (seen .fss) (dataBit s e (seen .rxd)) t)
+      step-pick (before .clk && not (seen .clk)) _ _ (step-falls e (seen .fss) (dataBit s (e .shift .level) (seen .rxd)) t)
       (step-pick (not (before .clk) && seen .clk) _ _ (step-rises e next t n) (step-still e t))
 
   step-slave-on : (f : Format) (e : Engine) (before seen : Pins) (next : ℕ) → EngineFacts F s e → (F → next < 0x10000) → StepFacts F s (slaveOn f s e before seen next)

@@ -13,7 +13,7 @@ use Rattle.registers.specs.declared.Control.{Control}
 use Rattle.registers.specs.declared.settings.Settings.{Settings}
 use Rattle.serial.specs.Engine.{cleared, driven, capturedOf, captureStep, noWord}
 use Rattle.serial.specs.Slots.{eventOf, lastSlot}
-use Rattle.serial.specs.Lines.{masterLines, linesOf}
+use Rattle.serial.specs.Lines.{masterLines, linesOf, masterTxd}
 use Rattle.serial.specs.Master.{joinedShift, act, resting, acting, dataBit, masterStep, ticked, masterEnd}
 use Rattle.serial.specs.Cycle.{DeviceModel, stepOf, endOf, deviceStep, cycleOf}
 use Rattle.serial.proofs.Cycles.{control-cycle, tx-cycle}
@@ -65,7 +65,7 @@ step-unreceived : (s : Settings) (e : Engine) (waiting : Bool) (next : ℕ) (rxd
 unfolding masterStep acting resting
 step-unreceived s e waiting next rxd rxd′ =
     pick-alike stepWithoutReceived (acting e waiting) _ _ _ _
-    (act-unreceived s e waiting next (dataBit s e rxd) (dataBit s (withoutReceived e) rxd′) (eventOf s (e .slot))) refl
+    (act-unreceived s e waiting next (dataBit s (masterTxd s e) rxd) (dataBit s (masterTxd s (withoutReceived e)) rxd′) (eventOf s (e .slot))) refl
 
 -- two branches under f
 pick-under : {A B : Type 0} (f : A → B) (t : Bool) (x y : A) (x′ y′ : B) → f x ≡ x′ → f y ≡ y′ → f (pick t x y) ≡ pick t x′ y′
@@ -106,7 +106,7 @@ module _ (d : DeviceModel) (pins : Pins) (k : Masters d) where
   -- what a cycle leaves
 
   pub lines-sends : cycleOf d pins .lines ≡ masterLines (settingsOf (d .registers .control)) (sendOf d .engine)
-  unfolding cycleOf linesOf masterLines
+  unfolding cycleOf linesOf masterLines masterTxd
   lines-sends = pick-no _ _ k ∙ ap (λ (r : Step). masterLines (settingsOf (d .registers .control)) (r .engine)) step-sends
 
   pub engine-sends : withoutReceived (cycleOf d pins .engine) ≡ masterEnd (settingsOf (d .registers .control)) (sendOf d .engine)

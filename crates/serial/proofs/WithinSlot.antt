@@ -14,7 +14,7 @@ use Rattle.registers.specs.declared.settings.Settings.{Settings}
 use Rattle.registers.specs.declared.time.Cycles.{Cycles}
 use Rattle.serial.specs.Engine.{cleared, noWord, captureStep}
 use Rattle.serial.specs.Slots.{eventOf, lastSlot}
-use Rattle.serial.specs.Lines.{masterLines, linesOf}
+use Rattle.serial.specs.Lines.{masterLines, linesOf, masterTxd}
 use Rattle.serial.specs.Master.{act, resting, acting, dataBit, masterStep, ticked, masterEnd}
 use Rattle.serial.specs.Cycle.{DeviceModel, stepOf, endOf, deviceStep, cycleOf}
 use Rattle.serial.proofs.Cycles.{control-cycle, cycle-stopped}
@@ -59,7 +59,7 @@ step-elapsed s c e w n d =
     let x = elapsedAt c e in
     let y = masterStep s x w n d .engine in
     ap (λ (g : Cycles). record { slot = y .slot; elapsed = g; frame = y .frame; selected = y .selected; mark = y .mark; shift = y .shift })
-    (pick-both (λ (r : Step). r .engine .elapsed ≡ cycles c) (acting x w) _ _ (λ _. act-elapsed s x w n (dataBit s x d) (eventOf s (e .slot))) (λ _. refl))
+    (pick-both (λ (r : Step). r .engine .elapsed ≡ cycles c) (acting x w) _ _ (λ _. act-elapsed s x w n (dataBit s (masterTxd s x) d) (eventOf s (e .slot))) (λ _. refl))
 
 -- The end of a cycle ---------------------------------------------------------------------------------------------------
 
@@ -108,7 +108,7 @@ module _ (s : Settings) where
 
 -- a cycle that does not end its slot leaves the engine as its lines show it
 lines-end : (s : Settings) (e : Engine) → (masterEnd s e .elapsed .0 ≡ 0 → ⊥) → masterLines s (masterEnd s e) ≡ masterLines s e
-unfolding masterEnd ticked masterLines
+unfolding masterEnd ticked masterLines masterTxd
 lines-end s e =
     pick-both Kept (resting e) _ _ (λ _ _. refl)
     (λ _. pick-both Kept (ltb (e .elapsed .0 + 1) (s .divisor .0)) _ _ (λ _ _. refl)

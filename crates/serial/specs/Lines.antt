@@ -6,7 +6,7 @@ use Rattle.registers.specs.Choose.{pick, bitAt}
 use Rattle.registers.specs.declared.settings.Format.{Format}
 use Rattle.registers.specs.declared.settings.Format.the-variants.{Motorola, Ti, Microwire, Reserved}
 use Rattle.registers.specs.declared.settings.Settings.{Settings}
-use Rattle.serial.specs.Slots.{levelsOf}
+use Rattle.serial.specs.Slots.{dataOn, levelsOf}
 use Rattle.serial.specs.declared.engine.Engine.{Engine}
 use Rattle.serial.specs.declared.lines.Lines.{Lines}
 use Rattle.serial.specs.declared.lines.Pins.{Pins}
@@ -38,15 +38,23 @@ clockOn Ti polarity active = active
 clockOn Microwire polarity active = active
 clockOn Reserved polarity active = active
 
--- A frame's lines: the slot's levels with the data level held on TXD.
+-- A frame's lines: the slot's levels with TXD.
 unfoldable pub frameLines : Settings → Levels → Bool → Lines
-frameLines s v level = record { clk = clockOn (s .format) (s .polarity) (v .clk); fss = v .fss; txd = level; released = v .released }
+frameLines s v txd = record { clk = clockOn (s .format) (s .polarity) (v .clk); fss = v .fss; txd = txd; released = v .released }
 
--- A master in a frame shows the slot's lines, else the idle ones. In TI's slots 0 and 1 a captured bit says that the word is joined to the one before.
+-- In TI's slots 0 and 1 a captured bit says that the word is joined to the one before.
+abbrev pub joinedTo : Engine → Bool
+joinedTo e = not (eqb (e .shift .captured) 0)
+
+-- TXD of a master in a frame: the data level in the slots that show it.
+unfoldable pub masterTxd : Settings → Engine → Bool
+masterTxd s e = dataOn (s .format) (levelsOf s (joinedTo e) (e .slot)) (e .slot .0) && e .shift .level
+
+-- A master in a frame shows the slot's lines, else the idle ones.
 unfoldable pub masterLines : Settings → Engine → Lines
 masterLines s e =
     pick (e .frame)
-    (frameLines s (levelsOf s (not (eqb (e .shift .captured) 0)) (e .slot)) (e .shift .level))
+    (frameLines s (levelsOf s (joinedTo e) (e .slot)) (masterTxd s e))
     (idleOn (s .format) (s .polarity))
 
 -- A slave shows its data level while selected, in TI while in a word.

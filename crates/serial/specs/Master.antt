@@ -8,6 +8,7 @@ use Rattle.registers.specs.declared.time.Slots.{Slots}
 use Rattle.registers.specs.declared.settings.Settings.{Settings}
 use Rattle.serial.specs.Bits.{bitOf}
 use Rattle.serial.specs.Engine.{clearShift, cleared, withShift, withFrame, withSlot, loaded, started, driven, quieted, noWord, begun, captureStep}
+use Rattle.serial.specs.Lines.{masterTxd}
 use Rattle.serial.specs.Slots.{eventOf, lastSlot, widthOf, captureWidth}
 use Rattle.serial.specs.declared.engine.Shift.{Shift}
 use Rattle.serial.specs.declared.engine.Engine.{Engine}
@@ -59,13 +60,13 @@ unfoldable pub acting : Engine → Bool → Bool
 acting e waiting = (e .frame && eqb (e .elapsed .0) 0) || (resting e && waiting)
 
 -- In loopback the captured data is the device's own TXD in that cycle.
-unfoldable pub dataBit : Settings → Engine → Bool → Bool
-dataBit s e rxd = pick (s .loopback) (e .shift .level) rxd
+unfoldable pub dataBit : Settings → Bool → Bool → Bool
+dataBit s txd rxd = pick (s .loopback) txd rxd
 
 -- The engine after the cycle's event, as its lines show it.
 unfoldable pub masterStep : Settings → Engine → Bool → ℕ → Bool → Step
 masterStep s e waiting next rxd =
-    pick (acting e waiting) (act s e waiting next (dataBit s e rxd) (eventOf s (e .slot))) (noWord e)
+    pick (acting e waiting) (act s e waiting next (dataBit s (masterTxd s e) rxd) (eventOf s (e .slot))) (noWord e)
 
 -- One cycle of the slot has gone; after h the next slot begins, and after the last one the engine is clear: there TI's frame is over.
 unfoldable pub ticked : Settings → Engine → Engine

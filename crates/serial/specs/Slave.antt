@@ -63,7 +63,7 @@ afterTaking took r = record { engine = r .engine; takes = took || r .takes; comp
 unfoldable pub motorolaEdges : Settings → Step → Pins → Pins → ℕ → Step
 motorolaEdges s r before seen next =
     pick (r .engine .selected)
-    (afterTaking (r .takes) (motorolaClock s (r .engine) (captureEdge s before seen) (driveEdge s before seen) next (dataBit s (r .engine) (seen .rxd))))
+    (afterTaking (r .takes) (motorolaClock s (r .engine) (captureEdge s before seen) (driveEdge s before seen) next (dataBit s (r .engine .shift .level) (seen .rxd))))
     r
 
 -- FSS HIGH deselects and drops a part word; FSS comes before CLK.
@@ -95,7 +95,7 @@ tiRises s e next =
 
 unfoldable pub tiSlave : Settings → Engine → Pins → Pins → ℕ → Step
 tiSlave s e before seen next =
-    pick (before .clk && not (seen .clk)) (tiFalls s e (seen .fss) (dataBit s e (seen .rxd)))
+    pick (before .clk && not (seen .clk)) (tiFalls s e (seen .fss) (dataBit s (e .shift .level) (seen .rxd)))
     (pick (not (before .clk) && seen .clk) (tiRises s e next)
     (noWord e))
 

@@ -103,3 +103,10 @@ levelsOn Reserved phase b joined n = record { clk = false; fss = true; released 
 -- The levels of slot n in a frame; the clock is the logical one, before SPO.
 unfoldable pub levelsOf : Settings → Bool → Slots → Levels
 levelsOf s joined n = levelsOn (s .format) (s .phase) (s .bits) joined (n .0)
+
+-- Whether TXD shows data in slot n, whose levels are v; in all others it is LOW. Motorola: not in 0. TI and Microwire: where nSSPOE is LOW.
+abbrev pub dataOn : Format → Levels → ℕ → Bool
+dataOn Motorola v n = ltb 0 n
+dataOn Ti v n = not (v .released)
+dataOn Microwire v n = not (v .released)
+dataOn Reserved v n = false

@@ -1,7 +1,7 @@
 // The lines that a device drives, and the bytes of lines and pins.
 ghost use mathlib.Core.Path.{_≡_};
 ghost use Rattle.registers.specs.Flags.{ValueOf};
-ghost use Rattle.serial.specs.Lines.{pinsOf, byteOf, idleOn, clockOn, frameLines, masterLines, showsOn, slaveLines, linesOf, differ};
+ghost use Rattle.serial.specs.Lines.{pinsOf, byteOf, idleOn, clockOn, frameLines, masterTxd, masterLines, showsOn, slaveLines, linesOf, differ};
 use crate::engine::Engine;
 use crate::slots::Levels;
 use registers::settings::Format;
@@ -98,17 +98,27 @@ fn clock_on(f: Format, polarity: bool, active: bool) -> bool
     }
 }
 
-fn frame_lines(s: Settings, v: Levels, level: bool) -> Lines
-    ensures { λ r. ⌜ r ≡ frameLines s v level ⌝ }
+fn frame_lines(s: Settings, v: Levels, txd: bool) -> Lines
+    ensures { λ r. ⌜ r ≡ frameLines s v txd ⌝ }
 {
     let f = s.format;
     let clk = clock_on(f, s.polarity, v.clk);
     Lines {
         clk,
         fss: v.fss,
-        txd: level,
+        txd,
         released: v.released,
     }
+}
+
+// TXD of a master in a frame.
+pub fn master_txd(s: Settings, e: Engine) -> bool
+    ensures { λ r. ⌜ r ≡ masterTxd s e ⌝ }
+{
+    let f = s.format;
+    let levels = crate::slots::levels_of(s, e.shift.captured != 0, e.slot);
+    let shown = crate::slots::data_on(f, levels, e.slot.0);
+    shown & e.shift.level
 }
 
 fn master_lines(s: Settings, e: Engine) -> Lines
@@ -117,7 +127,9 @@ fn master_lines(s: Settings, e: Engine) -> Lines
     let frame = e.frame;
     if frame {
         let v = crate::slots::levels_of(s, e.shift.captured != 0, e.slot);
-        return frame_lines(s, v, e.shift.level);
+        let f = s.format;
+        let shown = crate::slots::data_on(f, v, e.slot.0);
+        return frame_lines(s, v, shown & e.shift.level);
     }
     let f = s.format;
     idle_on(f, s.polarity)

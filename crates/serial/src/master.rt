@@ -112,11 +112,11 @@ fn acting(e: Engine, waiting: bool) -> bool
 }
 
 // The level that a capture takes: in loopback the device's own TXD.
-pub fn data_bit(s: Settings, e: Engine, rxd: bool) -> bool
-    ensures { λ r. ⌜ r ≡ dataBit s e rxd ⌝ }
+pub fn data_bit(s: Settings, txd: bool, rxd: bool) -> bool
+    ensures { λ r. ⌜ r ≡ dataBit s txd rxd ⌝ }
 {
     let own = s.loopback;
-    if own { e.shift.level } else { rxd }
+    if own { txd } else { rxd }
 }
 
 // The engine after the cycle's event, as its lines show it.
@@ -126,7 +126,7 @@ pub fn master_step(s: Settings, e: Engine, waiting: bool, next: u16, rxd: bool) 
     let acts = acting(e, waiting);
     if acts {
         let event = crate::slots::event_of(s, e.slot);
-        let bit = data_bit(s, e, rxd);
+        let bit = data_bit(s, crate::lines::master_txd(s, e), rxd);
         return act(s, e, waiting, next, bit, event);
     }
     crate::engine::no_word(e)

@@ -114,7 +114,7 @@ fn motorola_edges(s: Settings, r: Step, before: Pins, seen: Pins, next: u16) -> 
     if selected {
         let captures = capture_edge(s, before, seen);
         let drives = drive_edge(s, before, seen);
-        let bit = crate::master::data_bit(s, e, seen.rxd);
+        let bit = crate::master::data_bit(s, e.shift.level, seen.rxd);
         return after_taking(r.takes, motorola_clock(s, e, captures, drives, next, bit));
     }
     r
@@ -184,7 +184,7 @@ fn ti_slave(s: Settings, e: Engine, before: Pins, seen: Pins, next: u16) -> Step
     let falls = before.clk & !seen.clk;
     let rises = !before.clk & seen.clk;
     if falls {
-        let bit = crate::master::data_bit(s, e, seen.rxd);
+        let bit = crate::master::data_bit(s, e.shift.level, seen.rxd);
         return ti_falls(s, e, seen.fss, bit);
     }
     if rises {

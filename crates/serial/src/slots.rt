@@ -1,7 +1,7 @@
 // The slot tables: what a master does in a slot's first cycle, and the levels that it shows in that slot.
 ghost use mathlib.Core.Path.{_≡_};
 ghost use Prim.Native.Nat.{_-_};
-ghost use Rattle.serial.specs.Slots.{motorolaEvent, tiEvent, microwireEvent, eventOf, lastSlot, widthOf, captureWidth, motorolaLevels, tiLevels, microwireLevels, levelsOf};
+ghost use Rattle.serial.specs.Slots.{motorolaEvent, tiEvent, microwireEvent, eventOf, lastSlot, widthOf, captureWidth, dataOn, motorolaLevels, tiLevels, microwireLevels, levelsOf};
 use registers::settings::Format;
 use registers::settings::Settings;
 use registers::time::Slots;
@@ -223,5 +223,17 @@ pub fn levels_of(s: Settings, joined: bool, slot: Slots) -> Levels
             fss: true,
             released: true,
         },
+    }
+}
+
+// Whether TXD shows data in a slot with these levels; it is LOW in the others.
+pub fn data_on(f: Format, v: Levels, n: u16) -> bool
+    ensures { λ r. ⌜ r ≡ dataOn f v n ⌝ }
+{
+    match f {
+        Format::Motorola => 0 < n,
+        Format::Ti => !v.released,
+        Format::Microwire => !v.released,
+        Format::Reserved => false,
     }
 }

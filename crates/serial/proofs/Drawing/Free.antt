@@ -18,7 +18,7 @@ use Rattle.registers.specs.declared.settings.Format.the-variants.{Motorola, Ti,
 use Rattle.registers.specs.declared.settings.Settings.{Settings}
 use Rattle.serial.specs.Engine.{clearShift, noWord}
 use Rattle.serial.specs.Slots.{eventOf, lastSlot, levelsOf}
-use Rattle.serial.specs.Lines.{masterLines, idleOn, frameLines}
+use Rattle.serial.specs.Lines.{masterLines, idleOn, frameLines, masterTxd, joinedTo}
 use Rattle.serial.specs.Master.{act, resting, acting, dataBit, masterStep, ticked, masterEnd}
 use Rattle.serial.specs.Cycle.{DeviceModel, cycleOf, after}
 use Rattle.serial.specs.Busy.{busyDevice}
@@ -70,7 +70,7 @@ module _ (s : Settings) where
   acted-free e f = go (e .frame) (resting e) f
     where
       go : (t r : Bool) → t ≡ false
-          → _≡_ {A = Solo} (record { tx = pick (stepWithoutReceived (pick ((t && eqb (e .elapsed .0) 0) || (r && false)) (act s e false 0 (dataBit s e false) (eventOf s (e .slot))) (noWord e)) .takes) (rest []) []; engine = stepWithoutReceived (pick ((t && eqb (e .elapsed .0) 0) || (r && false)) (act s e false 0 (dataBit s e false) (eventOf s (e .slot))) (noWord e)) .engine }) (solo [] (withoutReceived e))
+          → _≡_ {A = Solo} (record { tx = pick (stepWithoutReceived (pick ((t && eqb (e .elapsed .0) 0) || (r && false)) (act s e false 0 (dataBit s (masterTxd s e) false) (eventOf s (e .slot))) (noWord e)) .takes) (rest []) []; engine = stepWithoutReceived (pick ((t && eqb (e .elapsed .0) 0) || (r && false)) (act s e false 0 (dataBit s (masterTxd s e) false) (eventOf s (e .slot))) (noWord e)) .engine }) (solo [] (withoutReceived e))
       go true r k = absurd (true≢false k)
       go false true k = refl
       go false false k = refl
@@ -113,11 +113,11 @@ module _ (s : Settings) where
   -- the slot in which the frame is over
   acted-over : (n c : ℕ) (d : Bool) (w : ℕ) → eventOf s (slots n) ≡ Release → acted s (on n c d w []) .engine .frame ≡ false
   unfolding acted moves masterStep acting
-  acted-over n c d w e = ap (λ (v : Event). act s (sending n (shifted c d w 0)) false 0 (dataBit s (sending n (shifted c d w 0)) false) v .engine .frame) e
+  acted-over n c d w e = ap (λ (v : Event). act s (sending n (shifted c d w 0)) false 0 (dataBit s (masterTxd s (sending n (shifted c d w 0))) false) v .engine .frame) e
 
   acted-words : (n c : ℕ) (d : Bool) (w : ℕ) → eventOf s (slots n) ≡ Release → acted s (on n c d w []) .tx ≡ []
   unfolding acted moves masterStep acting
-  acted-words n c d w e = ap (λ (v : Event). pick (act s (sending n (shifted c d w 0)) false 0 (dataBit s (sending n (shifted c d w 0)) false) v .takes) (rest []) []) e
+  acted-words n c d w e = ap (λ (v : Event). pick (act s (sending n (shifted c d w 0)) false 0 (dataBit s (masterTxd s (sending n (shifted c d w 0))) false) v .takes) (rest []) []) e
 
   over-free : (n c : ℕ) (d : Bool) (w : ℕ) → eventOf s (slots n) ≡ Release → busy (cycle s (on n c d w [])) ≡ false
   unfolding cycle
@@ -132,7 +132,7 @@ module _ (s : Settings) where
     where
       go : (t : Bool) → e .frame ≡ t → e .frame ≡ true
       go true q = q
-      go false q = absurd (true≢false (sym (idle-released (s .format) (s .polarity)) ∙ ap (λ (t : Bool). pick t (frameLines s (levelsOf s (not (eqb (e .shift .captured) 0)) (e .slot)) (e .shift .level)) (idleOn (s .format) (s .polarity)) .released) (sym q) ∙ k))
+      go false q = absurd (true≢false (sym (idle-released (s .format) (s .polarity)) ∙ ap (λ (t : Bool). pick t (frameLines s (levelsOf s (joinedTo e) (e .slot)) (masterTxd s e)) (idleOn (s .format) (s .polarity)) .released) (sym q) ∙ k))
 
   run-within : (j c : ℕ) (tx : List ℕ) (e : Engine) → Live e → c + 1 + j < s .divisor .0 → run j (solo tx (afterCycles s (c + 1) (withoutReceived e))) ≡ solo tx (elapsedAt (c + 1 + j) (withoutReceived e))
   run-within zero c tx e live l = ap (solo tx) (after-within s (c + 1) (withoutReceived e) (omega arith) ∙ ap (λ (i : ℕ). elapsedAt i (withoutReceived e)) (omega arith))

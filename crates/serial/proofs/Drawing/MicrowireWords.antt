@@ -1,7 +1,7 @@
 -- A Microwire master alone draws its load.
 use Prim.Native.Nat.{ℕ, zero, suc, _+_, _*_, _/_, _%_, _<_}
 use mathlib.Core.Path.{_≡_, refl, sym, ap}
-use mathlib.Core.Bool.{Bool, true, false, and-false}
+use mathlib.Core.Bool.{Bool, true, false, and-false, not, _&&_}
 use mathlib.Core.List.{List, [], _∷_, _++_}
 use native.Mathlib.Omega.{arith}
 use native.Mathlib.Numerals.{add-one}
@@ -13,7 +13,7 @@ use Rattle.registers.specs.declared.settings.Settings.{Settings}
 use Rattle.serial.specs.Bits.{bitOf}
 use Rattle.serial.specs.Engine.{clearShift, started, driven}
 use Rattle.serial.specs.Slots.{eventOf, microwireEvent, lastSlot, widthOf, microwireLevels, levelsOf}
-use Rattle.serial.specs.Lines.{masterLines, frameLines}
+use Rattle.serial.specs.Lines.{masterLines, frameLines, masterTxd}
 use Rattle.serial.specs.Master.{chainStep}
 use Rattle.serial.proofs.Exchange.Ends.{waits-cons}
 use Rattle.serial.proofs.Exchange.Moves.{sending, shifted}
@@ -92,9 +92,9 @@ module _ (s : Settings) (phase : Bool) where
   b = s .bits
 
   lines-at : (n c : ℕ) (d : Bool) (w : ℕ) (v : Levels) → microwireLevels n ≡ v
-      → masterLines S (sending n (shifted c d w 0)) ≡ record { clk = v .clk; fss = v .fss; txd = d; released = v .released }
-  unfolding masterLines levelsOf frameLines
-  lines-at n c d w v e = ap (λ (u : Levels). frameLines S u d) e
+      → masterLines S (sending n (shifted c d w 0)) ≡ record { clk = v .clk; fss = v .fss; txd = not (v .released) && d; released = v .released }
+  unfolding masterLines masterTxd levelsOf frameLines
+  lines-at n c d w v e = ap (λ (u : Levels). frameLines S u (not (u .released) && d)) e
 
   begin-slot : (x : Shift) (w : ℕ) (tx : List ℕ) → Slot S (solo (w ∷ tx) (restAt x)) (low S false (bitOf 8 w 0)) (on 1 0 (bitOf 8 w 0) w tx)
   unfolding eventOf microwireEvent lastSlot widthOf started microwireLevels

@@ -1,16 +1,17 @@
 -- A Motorola master alone draws its load, with SPH 0 and with SPH 1.
 use Prim.Native.Nat.{ℕ, _+_, _-_, _*_, _<_}
-use mathlib.Core.Path.{_≡_, refl, sym, ap, subst}
-use mathlib.Core.Bool.{Bool, true, false, not}
+use mathlib.Core.Path.{_≡_, refl, sym, ap, subst, ap₂}
+use mathlib.Core.Bool.{Bool, true, false, not, _&&_}
 use mathlib.Core.List.{List, [], _∷_, _++_, append-nil}
 use native.Mathlib.Omega.{arith}
+use borrow.Author.Tests.{lt-ltb}
 use Rattle.registers.specs.Time.{slots}
 use Rattle.registers.specs.declared.settings.Format.the-variants.{Motorola}
 use Rattle.registers.specs.declared.settings.Settings.{Settings}
 use Rattle.serial.specs.Bits.{bitOf}
 use Rattle.serial.specs.Engine.{clearShift, started, driven}
 use Rattle.serial.specs.Slots.{eventOf, motorolaEvent, lastSlot, widthOf, motorolaLevels, levelsOf}
-use Rattle.serial.specs.Lines.{masterLines, frameLines}
+use Rattle.serial.specs.Lines.{masterLines, frameLines, masterTxd}
 use Rattle.serial.specs.Master.{chainStep}
 use Rattle.serial.proofs.Exchange.Ends.{waits-cons}
 use Rattle.serial.proofs.Exchange.Moves.{sending, shifted}
@@ -31,14 +32,19 @@ module _ (s : Settings) (phase : Bool) where
   abbrev b : ℕ
   b = s .bits
 
-  lines-at : (n : ℕ) (x : Shift) (c : Bool) → motorolaLevels phase b n ≡ lowAt c → masterLines S (sending n x) ≡ low S c (x .level)
-  unfolding masterLines levelsOf frameLines
-  lines-at n x c e = ap (λ (v : Levels). frameLines S v (x .level)) e
+  lines-at : (n : ℕ) (x : Shift) (c : Bool) → 0 < n → motorolaLevels phase b n ≡ lowAt c → masterLines S (sending n x) ≡ low S c (x .level)
+  unfolding masterLines masterTxd levelsOf frameLines
+  lines-at n x c p e = ap₂ (λ (v : Levels) (t : Bool). frameLines S v (t && x .level)) e (lt-ltb 0 n p)
+
+  -- in slot 0 TXD is LOW
+  lines-first : (x : Shift) → motorolaLevels phase b 0 ≡ lowAt false → masterLines S (sending 0 x) ≡ low S false false
+  unfolding masterLines masterTxd levelsOf frameLines
+  lines-first x e = ap (λ (v : Levels). frameLines S v false) e
 
   -- slot 0
   begin-slot : (x : Shift) (w : ℕ) (tx : List ℕ) → Slot S (solo (w ∷ tx) (restAt x)) (low S false false) (on 1 0 false w tx)
   unfolding eventOf motorolaEvent lastSlot
-  begin-slot x w tx = slot-start S x w tx Begin false (low S false false) refl refl (lines-at 0 (shifted 0 false w 0) false (levels-first phase b)) (omega arith)
+  begin-slot x w tx = slot-start S x w tx Begin false (low S false false) refl refl (lines-first (shifted 0 false w 0) (levels-first phase b)) (omega arith)
 
   -- before bit c, and between its two slots
   abbrev st : ℕ → List ℕ → ℕ → Bool → Solo
@@ -52,14 +58,14 @@ module _ (s : Settings) (phase : Bool) where
   drive-slot w tx c d l =
       slot-on S (2 * c + 1) c d w tx (Drive c) (2 * c + 1) c (bitOf b w c) w false (low S phase (bitOf b w c)) (2 * c + 2)
       (motorola-drive phase b (2 * c + 1) c refl l) refl
-      (lines-at (2 * c + 1) (shifted c (bitOf b w c) w 0) phase (levels-drive phase b (2 * c + 1) c refl l)) (omega arith) (omega arith)
+      (lines-at (2 * c + 1) (shifted c (bitOf b w c) w 0) phase (omega arith) (levels-drive phase b (2 * c + 1) c refl l)) (omega arith) (omega arith)
 
   capture-slot : (w : ℕ) (tx : List ℕ) (c : ℕ) (d : Bool) → c < b → Slot S (mid w tx c d) (low S (not phase) d) (st w tx (c + 1) d)
   unfolding eventOf lastSlot
   capture-slot w tx c d l =
       slot-on S (2 * c + 2) c d w tx Capture (2 * c + 2) (c + 1) d w false (low S (not phase) d) (2 * (c + 1) + 1)
       (motorola-capture phase b (2 * c + 2) c refl l) (capture-move S b _ (2 * c + 2) c d w l)
-      (lines-at (2 * c + 2) (shifted (c + 1) d w 0) (not phase) (levels-capture phase b (2 * c + 2) c refl l)) (omega arith) (omega arith)
+      (lines-at (2 * c + 2) (shifted (c + 1) d w 0) (not phase) (omega arith) (levels-capture phase b (2 * c + 2) c refl l)) (omega arith) (omega arith)
 
   -- a word, however its first bit comes on TXD
   word-draws : (w : ℕ) (tx : List ℕ) → 1 < b → (x : Solo) → Slot S x (low S phase (bitOf b w 0)) (mid w tx 0 (bitOf b w 0))
@@ -89,7 +95,7 @@ module _ (s : Settings) where
       let t = s .bits in
       slot-on (S s false) (2 * t + 1) t d w tx Pause (2 * t + 1) t d w false (low (S s false) false d) (2 * t + 2)
       (motorola-last false t (2 * t + 1) refl) refl
-      (lines-at s false (2 * t + 1) (shifted t d w 0) false (levels-last false t (2 * t + 1) refl)) (omega arith) (omega arith)
+      (lines-at s false (2 * t + 1) (shifted t d w 0) false (omega arith) (levels-last false t (2 * t + 1) refl)) (omega arith) (omega arith)
 
   -- a frame up to its idle slots
   frame0-until : {End : List Lines → Solo → Type 0} {all : List Lines} → 1 < s .bits → (x : Shift) (w : ℕ) (tx : List ℕ)
@@ -120,7 +126,7 @@ module _ (s : Settings) where
       let t = s .bits in
       slot-on (S s true) (2 * t + 1) t d w [] (Chain (slots 1)) (2 * t + 1) t d w false (low (S s true) false d) (2 * t + 2)
       (motorola-last true t (2 * t + 1) refl) refl
-      (lines-at s true (2 * t + 1) (shifted t d w 0) false (levels-last true t (2 * t + 1) refl)) (omega arith) (omega arith)
+      (lines-at s true (2 * t + 1) (shifted t d w 0) false (omega arith) (levels-last true t (2 * t + 1) refl)) (omega arith) (omega arith)
 
   -- a waiting word is taken: this is its slot 1
   chain-slot : 0 < s .bits → (w : ℕ) (d : Bool) (u : ℕ) (tx : List ℕ)
@@ -131,7 +137,7 @@ module _ (s : Settings) where
       slot-on (S s true) (2 * t + 1) t d w (u ∷ tx) (Chain (slots 1)) 1 0 (bitOf t u 0) u true (low (S s true) true (bitOf t u 0)) 2
       (motorola-last true t (2 * t + 1) refl)
       (ap (λ (y : Bool). stepWithoutReceived (chainStep (S s true) (sending (2 * t + 1) (shifted t d w 0)) y u (slots 1))) (waits-cons u tx))
-      (lines-at s true 1 (shifted 0 (bitOf t u 0) u 0) true (levels-drive true t 1 0 refl l)) (omega arith) refl
+      (lines-at s true 1 (shifted 0 (bitOf t u 0) u 0) true (omega arith) (levels-drive true t 1 0 refl l)) (omega arith) refl
 
   chain1-until : 1 < s .bits → (x : Solo) (w : ℕ) (ws : List ℕ) → Slot (S s true) x (low (S s true) true (bitOf (s .bits) w 0)) (on 2 0 (bitOf (s .bits) w 0) w ws)
       → Until (S s true) (Over (S s true)) (chain1 (S s true) w ws) x

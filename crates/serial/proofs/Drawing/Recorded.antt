@@ -13,7 +13,7 @@ use Rattle.registers.specs.declared.settings.Settings.{Settings}
 use Rattle.serial.specs.Bits.{cut}
 use Rattle.serial.specs.Engine.{clearShift}
 use Rattle.serial.specs.Slots.{widthOf}
-use Rattle.serial.specs.Lines.{byteOf, masterLines}
+use Rattle.serial.specs.Lines.{byteOf, masterLines, masterTxd}
 use Rattle.serial.specs.Master.{resting, acting, masterStep, masterEnd}
 use Rattle.serial.specs.Cycle.{DeviceModel, recording}
 use Rattle.serial.specs.Drawing.{slotTotal, idle, drawingOn, drawing, stretch}
@@ -86,7 +86,7 @@ fresh-engine s d k =
 
 -- with nothing to send a master stays idle
 idle-goes : (s : Settings) (x : Shift) (k : ℕ) → Goes s (replicate k (idle s)) (solo [] (restAt (shiftWithoutReceived x))) (solo [] (restAt (shiftWithoutReceived x)))
-unfolding cycle acted moves masterStep acting resting masterEnd masterLines
+unfolding cycle acted moves masterStep acting resting masterEnd masterLines masterTxd
 idle-goes s x zero = none
 idle-goes s x (suc k) = more refl refl (idle-goes s x k)
 

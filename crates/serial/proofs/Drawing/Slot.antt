@@ -14,7 +14,7 @@ use Rattle.registers.specs.declared.settings.Settings.{Settings}
 use Rattle.serial.specs.Bits.{bitOf}
 use Rattle.serial.specs.Engine.{clearShift, noWord, capturedOf, captureStep}
 use Rattle.serial.specs.Slots.{eventOf, lastSlot}
-use Rattle.serial.specs.Lines.{masterLines}
+use Rattle.serial.specs.Lines.{masterLines, masterTxd}
 use Rattle.serial.specs.Master.{act, resting, acting, dataBit, masterStep, masterEnd}
 use Rattle.serial.proofs.Exchange.Core.{waits}
 use Rattle.serial.proofs.Exchange.Ends.{waits-cons}
@@ -53,7 +53,7 @@ module _ (s : Settings) where
       ap (λ (z : Solo). solo (z .tx) (masterEnd s (z .engine))) (acted-within tx c e) ∙ ap (solo tx) (end-elapsed s (c + 1) (withoutReceived e) live)
 
   shows-within : (tx : List ℕ) (c : ℕ) (e : Engine) → shows s (solo tx (elapsedAt (c + 1) (withoutReceived e))) ≡ masterLines s (withoutReceived e)
-  unfolding masterLines
+  unfolding masterLines masterTxd
   shows-within tx c e = ap (λ (z : Solo). masterLines s (z .engine)) (acted-within tx c e)
 
   goes-from : {ls : List Lines} {x y z : Solo} → x ≡ y → Goes s ls y z → Goes s ls x z
@@ -104,7 +104,7 @@ module _ (s : Settings) where
       ∙ ap (solo (z .tx)) (end-elapsed s 0 (withoutReceived (z .engine)) (k .live))
 
   state-lines : {x y : Solo} {l : Lines} → (k : Slot x l y) → masterLines s (withoutReceived (k .state .engine)) ≡ l
-  unfolding masterLines
+  unfolding masterLines masterTxd
   state-lines k = k .lines
 
   pub slot-goes : {x y : Solo} {l : Lines} → 0 < s .divisor .0 → Slot x l y → Goes s (replicate (s .divisor .0) l) x y
@@ -147,7 +147,7 @@ module _ (s : Settings) where
 
   -- an event in a frame after which the frame goes on
   pub slot-on : (n c : ℕ) (d : Bool) (w : ℕ) (tx : List ℕ) (v : Event) (m c′ : ℕ) (d′ : Bool) (w′ : ℕ) (t : Bool) (l : Lines) (k : ℕ)
-      → eventOf s (slots n) ≡ v → stepWithoutReceived (act s (sending n (shifted c d w 0)) (waits tx) (getD tx 0 0) (dataBit s (sending n (shifted c d w 0)) false) v) ≡ move m c′ d′ w′ t
+      → eventOf s (slots n) ≡ v → stepWithoutReceived (act s (sending n (shifted c d w 0)) (waits tx) (getD tx 0 0) (dataBit s (masterTxd s (sending n (shifted c d w 0))) false) v) ≡ move m c′ d′ w′ t
       → masterLines s (sending m (shifted c′ d′ w′ 0)) ≡ l → m < lastSlot s .0 → m + 1 ≡ k → Slot s (on n c d w tx) l (on k c′ d′ w′ (pick t (rest tx) tx))
   unfolding acted moves masterStep acting
   slot-on n c d w tx v m c′ d′ w′ t l k e a q b z =
@@ -155,7 +155,7 @@ module _ (s : Settings) where
       record {
         state = on m c′ d′ w′ (pick t (rest tx) tx);
         acts = ap (λ (r : Step). record { tx = pick (r .takes) (rest tx) tx; engine = r .engine })
-            (ap (λ (u : Event). stepWithoutReceived (act s x (waits tx) (getD tx 0 0) (dataBit s x false) u)) e ∙ a);
+            (ap (λ (u : Event). stepWithoutReceived (act s x (waits tx) (getD tx 0 0) (dataBit s (masterTxd s x) false) u)) e ∙ a);
         begins = refl;
         lines = q;
         live = refl;
@@ -164,7 +164,7 @@ module _ (s : Settings) where
 
   -- an event in the last slot of a frame that has no idle slot
   pub slot-last : (n c : ℕ) (d : Bool) (w : ℕ) (tx : List ℕ) (v : Event) (c′ : ℕ) (d′ : Bool) (w′ : ℕ) (l : Lines)
-      → eventOf s (slots n) ≡ v → stepWithoutReceived (act s (sending n (shifted c d w 0)) (waits tx) (getD tx 0 0) (dataBit s (sending n (shifted c d w 0)) false) v) ≡ move n c′ d′ w′ false
+      → eventOf s (slots n) ≡ v → stepWithoutReceived (act s (sending n (shifted c d w 0)) (waits tx) (getD tx 0 0) (dataBit s (masterTxd s (sending n (shifted c d w 0))) false) v) ≡ move n c′ d′ w′ false
       → masterLines s (sending n (shifted c′ d′ w′ 0)) ≡ l → n ≡ lastSlot s .0 → Slot s (on n c d w tx) l (solo tx (restAt clearShift))
   unfolding acted moves masterStep acting
   slot-last n c d w tx v c′ d′ w′ l e a q b =
@@ -172,7 +172,7 @@ module _ (s : Settings) where
       record {
         state = on n c′ d′ w′ tx;
         acts = ap (λ (r : Step). record { tx = pick (r .takes) (rest tx) tx; engine = r .engine })
-            (ap (λ (u : Event). stepWithoutReceived (act s x (waits tx) (getD tx 0 0) (dataBit s x false) u)) e ∙ a);
+            (ap (λ (u : Event). stepWithoutReceived (act s x (waits tx) (getD tx 0 0) (dataBit s (masterTxd s x) false) u)) e ∙ a);
         begins = refl;
         lines = q;
         live = refl;
@@ -181,15 +181,15 @@ module _ (s : Settings) where
 
   -- an idle master with a waiting word starts slot 0
   pub slot-start : (x : Shift) (w : ℕ) (tx : List ℕ) (v : Event) (d′ : Bool) (l : Lines)
-      → eventOf s (slots 0) ≡ v → stepWithoutReceived (act s (restAt x) true w (dataBit s (restAt x) false) v) ≡ move 0 0 d′ w true
+      → eventOf s (slots 0) ≡ v → stepWithoutReceived (act s (restAt x) true w (dataBit s (masterTxd s (restAt x)) false) v) ≡ move 0 0 d′ w true
       → masterLines s (sending 0 (shifted 0 d′ w 0)) ≡ l → 0 < lastSlot s .0 → Slot s (solo (w ∷ tx) (restAt x)) l (on 1 0 d′ w tx)
   unfolding acted moves masterStep acting resting
   slot-start x w tx v d′ l e a q b =
       record {
         state = on 0 0 d′ w tx;
-        acts = ap (λ (t : Bool). record { tx = pick (stepWithoutReceived (pick t (act s (restAt x) t w (dataBit s (restAt x) false) (eventOf s (slots 0))) (noWord (restAt x))) .takes) tx (w ∷ tx); engine = stepWithoutReceived (pick t (act s (restAt x) t w (dataBit s (restAt x) false) (eventOf s (slots 0))) (noWord (restAt x))) .engine }) (waits-cons w tx)
+        acts = ap (λ (t : Bool). record { tx = pick (stepWithoutReceived (pick t (act s (restAt x) t w (dataBit s (masterTxd s (restAt x)) false) (eventOf s (slots 0))) (noWord (restAt x))) .takes) tx (w ∷ tx); engine = stepWithoutReceived (pick t (act s (restAt x) t w (dataBit s (masterTxd s (restAt x)) false) (eventOf s (slots 0))) (noWord (restAt x))) .engine }) (waits-cons w tx)
             ∙ ap (λ (r : Step). record { tx = pick (r .takes) tx (w ∷ tx); engine = r .engine })
-            (ap (λ (u : Event). stepWithoutReceived (act s (restAt x) true w (dataBit s (restAt x) false) u)) e ∙ a);
+            (ap (λ (u : Event). stepWithoutReceived (act s (restAt x) true w (dataBit s (masterTxd s (restAt x)) false) u)) e ∙ a);
         begins = refl;
         lines = q;
         live = refl;
@@ -198,13 +198,13 @@ module _ (s : Settings) where
 
   -- the frame is over
   pub slot-release : (n c : ℕ) (d : Bool) (w : ℕ) (tx : List ℕ) (k : ℕ) → eventOf s (slots n) ≡ Release → 0 < n → n < lastSlot s .0 → n + 1 ≡ k → Slot s (on n c d w tx) (idle s) (solo tx (parkAt k))
-  unfolding acted moves masterStep acting masterLines
+  unfolding acted moves masterStep acting masterLines masterTxd
   slot-release n c d w tx k e p b z =
       let x = sending n (shifted c d w 0) in
       record {
         state = solo tx (parkAt n);
         acts = ap (λ (r : Step). record { tx = pick (r .takes) (rest tx) tx; engine = r .engine })
-            (ap (λ (u : Event). stepWithoutReceived (act s x (waits tx) (getD tx 0 0) (dataBit s x false) u)) e);
+            (ap (λ (u : Event). stepWithoutReceived (act s x (waits tx) (getD tx 0 0) (dataBit s (masterTxd s x) false) u)) e);
         begins = refl;
         lines = refl;
         live = ne-eqb n 0 (omega arith);
@@ -213,7 +213,7 @@ module _ (s : Settings) where
 
   -- the last idle slot
   pub slot-pause : (n : ℕ) (tx : List ℕ) → 0 < n → n ≡ lastSlot s .0 → Slot s (solo tx (parkAt n)) (idle s) (solo tx (restAt clearShift))
-  unfolding acted moves masterStep acting resting masterLines
+  unfolding acted moves masterStep acting resting masterLines masterTxd
   slot-pause n tx p e =
       record {
         state = solo tx (parkAt n);

@@ -1,7 +1,7 @@
 -- A TI master alone draws its load.
 use Prim.Native.Nat.{ℕ, suc, _+_, _-_, _*_, _<_}
 use mathlib.Core.Path.{_≡_, refl, ap, _∙_}
-use mathlib.Core.Bool.{Bool, true, false, not}
+use mathlib.Core.Bool.{Bool, true, false, not, _&&_}
 use mathlib.Core.List.{List, [], _∷_, _++_}
 use native.Mathlib.Omega.{arith}
 use lib.Dec.{eqb}
@@ -12,7 +12,7 @@ use Rattle.registers.specs.declared.settings.Settings.{Settings}
 use Rattle.serial.specs.Bits.{bitOf}
 use Rattle.serial.specs.Engine.{clearShift, started, driven}
 use Rattle.serial.specs.Slots.{eventOf, tiEvent, lastSlot, widthOf, tiLevels, levelsOf}
-use Rattle.serial.specs.Lines.{masterLines, frameLines}
+use Rattle.serial.specs.Lines.{masterLines, frameLines, masterTxd}
 use Rattle.serial.specs.Master.{joinedShift, joinStep}
 use Rattle.serial.proofs.Exchange.Ends.{waits-cons}
 use Rattle.serial.proofs.Exchange.Moves.{sending, shifted}
@@ -33,9 +33,9 @@ module _ (s : Settings) (phase : Bool) where
   b = s .bits
 
   lines-at : (n c : ℕ) (d : Bool) (w : ℕ) (v : Levels) → tiLevels (not (eqb c 0)) n ≡ v
-      → masterLines S (sending n (shifted c d w 0)) ≡ record { clk = v .clk; fss = v .fss; txd = d; released = v .released }
-  unfolding masterLines levelsOf frameLines
-  lines-at n c d w v e = ap (λ (u : Levels). frameLines S u d) e
+      → masterLines S (sending n (shifted c d w 0)) ≡ record { clk = v .clk; fss = v .fss; txd = not (v .released) && d; released = v .released }
+  unfolding masterLines masterTxd levelsOf frameLines
+  lines-at n c d w v e = ap (λ (u : Levels). frameLines S u (not (u .released) && d)) e
 
   -- slots 0 and 1 of a first word
   begin-slot : (x : Shift) (w : ℕ) (tx : List ℕ) → Slot S (solo (w ∷ tx) (restAt x)) (marked true) (on 1 0 false w tx)

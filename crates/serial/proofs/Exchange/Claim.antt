@@ -18,7 +18,7 @@ use Rattle.registers.specs.declared.settings.Format.{Format}
 use Rattle.registers.specs.declared.settings.Format.the-variants.{Motorola, Ti, Microwire, Reserved}
 use Rattle.registers.specs.declared.settings.Settings.{Settings}
 use Rattle.serial.specs.Engine.{cleared, noWord}
-use Rattle.serial.specs.Lines.{idleOn, linesOf, masterLines, slaveLines, differ}
+use Rattle.serial.specs.Lines.{idleOn, linesOf, masterLines, slaveLines, differ, masterTxd}
 use Rattle.serial.specs.Slave.{slaveStep, motorolaSlave, tiSlave}
 use Rattle.serial.specs.Cycle.{DeviceModel, deviceStep, stepOf}
 use Rattle.serial.proofs.Cycles.{control-cycle, step-stopped}
@@ -225,7 +225,7 @@ abbrev named : Format → Bool → Bool → ℕ → ℕ → Bool → Bool → Bo
 named f phase p b h role o on = record { format = f; phase = phase; polarity = p; bits = b; divisor = divisor h; slave = role; sod = o; loopback = false; enabled = on }
 
 idle-master : (f : Format) (phase p : Bool) (b h : ℕ) (o on : Bool) → linesOf (named f phase p b h false o on) cleared ≡ idleOn f p
-unfolding linesOf masterLines
+unfolding linesOf masterLines masterTxd
 idle-master f phase p b h o on = refl
 
 idle-slave : {f : Format} → Serial f → (phase p : Bool) (b h : ℕ) (on : Bool) → linesOf (named f phase p b h true false on) cleared ≡ hidden

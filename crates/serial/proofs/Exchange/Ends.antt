@@ -14,7 +14,7 @@ use Rattle.registers.specs.declared.settings.Settings.{Settings}
 use Rattle.serial.specs.Bits.{bitOf, cut}
 use Rattle.serial.specs.Engine.{cleared, clearShift, noWord, loaded}
 use Rattle.serial.specs.Slots.{eventOf, motorolaEvent, lastSlot}
-use Rattle.serial.specs.Lines.{masterLines, slaveLines}
+use Rattle.serial.specs.Lines.{masterLines, slaveLines, masterTxd}
 use Rattle.serial.specs.Master.{act, masterStep, masterEnd, acting, resting, dataBit}
 use Rattle.serial.specs.Slave.{slaveStep, slaveEnd, motorolaSlave}
 use Rattle.serial.specs.Pair.{wire}
@@ -25,7 +25,7 @@ use Rattle.serial.proofs.Exchange.Settle.{Two, slotStep, rested, slots-
 use Rattle.serial.proofs.Exchange.Quiet.{lawful-motorola}
 use Rattle.serial.proofs.Exchange.Events.{motorola-release, levels-first}
 use Rattle.serial.proofs.Exchange.Moves.{Queues, inFrame, hidden, sending, shifted, acted-by, slave-by, Slot, slot-of, LiveSlot}
-use Rattle.serial.proofs.Exchange.Motorola.{sm, ss, filledAt, lines-at}
+use Rattle.serial.proofs.Exchange.Motorola.{sm, ss, filledAt, lines-first}
 use Rattle.serial.specs.declared.engine.Engine.{Engine}
 use Rattle.serial.specs.declared.engine.Step.{Step}
 use Rattle.serial.specs.declared.lines.Lines.{Lines}
@@ -58,9 +58,9 @@ pub begin-acts : (phase : Bool) (b h w : ℕ) (ws : List ℕ) (q : Receiver) (d 
 unfolding acted masterStep acting resting eventOf motorolaEvent
 begin-acts phase b h w ws q d =
     let x : Side = record { tx = w ∷ ws; rx = q; engine = cleared; lines = hidden } in
-    let r : Step = act (sm phase b h) cleared (waits (w ∷ ws)) w (dataBit (sm phase b h) cleared d) (eventOf (sm phase b h) (slots 0)) in
+    let r : Step = act (sm phase b h) cleared (waits (w ∷ ws)) w (dataBit (sm phase b h) (masterTxd (sm phase b h) cleared) d) (eventOf (sm phase b h) (slots 0)) in
     ap (λ (t : Bool). moved (pick t r (noWord cleared)) x (masterLines (sm phase b h) (pick t r (noWord cleared) .engine))) (waits-cons w ws)
-    ∙ ap (moved r x) (lines-at phase b h 0 (loaded w) false (levels-first phase b))
+    ∙ ap (moved r x) (lines-first phase b h (loaded w) (levels-first phase b))
 
 -- FSS is HIGH again
 abbrev pub parked : ℕ → Engine
@@ -74,7 +74,7 @@ module _ (phase : Bool) (b h : ℕ) (k : Queues) where
   freed n = record { tx = k .mtx; rx = k .mrx; engine = parked n; lines = hidden }
 
   pub release-slot : (w v c n : ℕ) → n ≡ 2 * b + 2 → Slot (sm phase b h) (ss phase b h) (filledAt b w v k c false n) (freed n) (releasedAt k (n + 1))
-  unfolding eventOf dataBit wire lastSlot nextSlot masterLines slaveLines slaveEnd slaveStep motorolaSlave slaveSide
+  unfolding eventOf dataBit wire lastSlot nextSlot masterLines masterTxd slaveLines slaveEnd slaveStep motorolaSlave slaveSide
   release-slot w v c n e =
       slot-of (sm phase b h) (ss phase b h) (filledAt b w v k c false n) (freed n) (releasedAt k (n + 1) .m) (idle k .s) (idle k .s)
       (acted-by (sm phase b h) n (shifted (c + 1) (bitOf b w c) w (cut b v)) (k .mtx) (k .mrx) _ _ (bitOf b v c && true) Release (noWord (parked n)) (motorola-release phase b n e) refl refl)
@@ -83,7 +83,7 @@ module _ (phase : Bool) (b h : ℕ) (k : Queues) where
       refl refl
 
   parked-acts : (n : ℕ) (d : Bool) → 0 < n → acted (sm phase b h) (freed n) d ≡ freed n
-  unfolding acted masterStep acting resting masterLines
+  unfolding acted masterStep acting resting masterLines masterTxd
   parked-acts n d l = rw (ne-eqb n 0 (omega arith))
 
   pub pause-slot : (n : ℕ) → n ≡ 2 * b + 3 → Slot (sm phase b h) (ss phase b h) (releasedAt k n) (freed n) (idle k)
@@ -97,7 +97,7 @@ module _ (phase : Bool) (b h : ℕ) (k : Queues) where
 -- the pair at rest with nothing to send
 pub idle-stays : (phase : Bool) (b h : ℕ) (q : Receiver) (vs : List ℕ) (r : Receiver)
     → coreCycle (sm phase b h) (ss phase b h) (rested (idle (holding [] q vs r))) ≡ rested (idle (holding [] q vs r))
-unfolding coreCycle masterSide acted masterStep masterEnd acting resting masterLines slaveLines slaveEnd slaveStep motorolaSlave slaveSide wire
+unfolding coreCycle masterSide acted masterStep masterEnd acting resting masterLines masterTxd slaveLines slaveEnd slaveStep motorolaSlave slaveSide wire
 idle-stays phase b h q vs r = refl
 
 -- What both receive queues hold.

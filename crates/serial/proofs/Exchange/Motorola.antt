@@ -4,14 +4,14 @@ use mathlib.Core.Path.{_≡_, refl, ap, ap₂, _∙_}
 use mathlib.Core.Bool.{Bool, true, false, not, _&&_, and-true}
 use mathlib.Core.List.{List}
 use native.Mathlib.Omega.{arith}
-use borrow.Author.Tests.{le-leb, lt-leb}
+use borrow.Author.Tests.{le-leb, lt-leb, lt-ltb}
 use Rattle.registers.specs.Time.{cycles, slots}
 use Rattle.registers.specs.declared.settings.Format.the-variants.{Motorola}
 use Rattle.registers.specs.declared.settings.Settings.{Settings}
 use Rattle.serial.specs.Bits.{bitOf, cut, shiftedIn}
 use Rattle.serial.specs.Engine.{withShift, noWord, driven, captureStep}
 use Rattle.serial.specs.Slots.{eventOf, lastSlot, widthOf, motorolaLevels, levelsOf}
-use Rattle.serial.specs.Lines.{masterLines, slaveLines, frameLines}
+use Rattle.serial.specs.Lines.{masterLines, slaveLines, frameLines, masterTxd}
 use Rattle.serial.specs.Master.{dataBit}
 use Rattle.serial.specs.Slave.{slaveStep, slaveEnd, motorolaSlave, motorolaSelect, motorolaEdges, motorolaClock, captureEdge, driveEdge}
 use Rattle.serial.specs.Pair.{wire}
@@ -58,10 +58,15 @@ module _ (phase : Bool) (b h : ℕ) where
       }
 
 -- The master's lines in a frame, and the slave's.
-pub lines-at : (phase : Bool) (b h n : ℕ) (x : Shift) (c : Bool) → motorolaLevels phase b n ≡ lowAt c → masterLines (sm phase b h) (sending n x) ≡ inFrame c (x .level)
-unfolding masterLines levelsOf frameLines
-lines-at phase b h n x true e = ap (λ (v : Levels). frameLines (sm phase b h) v (x .level)) e
-lines-at phase b h n x false e = ap (λ (v : Levels). frameLines (sm phase b h) v (x .level)) e
+pub lines-at : (phase : Bool) (b h n : ℕ) (x : Shift) (c : Bool) → 0 < n → motorolaLevels phase b n ≡ lowAt c → masterLines (sm phase b h) (sending n x) ≡ inFrame c (x .level)
+unfolding masterLines masterTxd levelsOf frameLines
+lines-at phase b h n x true p e = ap₂ (λ (v : Levels) (t : Bool). frameLines (sm phase b h) v (t && x .level)) e (lt-ltb 0 n p)
+lines-at phase b h n x false p e = ap₂ (λ (v : Levels) (t : Bool). frameLines (sm phase b h) v (t && x .level)) e (lt-ltb 0 n p)
+
+-- in slot 0 TXD is LOW
+pub lines-first : (phase : Bool) (b h : ℕ) (x : Shift) → motorolaLevels phase b 0 ≡ lowAt false → masterLines (sm phase b h) (sending 0 x) ≡ inFrame false false
+unfolding masterLines masterTxd levelsOf frameLines
+lines-first phase b h x e = ap (λ (v : Levels). frameLines (sm phase b h) v false) e
 
 -- At a capture edge a slave in a word captures; at the other edge it drives the next bit.
 slave-captures : (phase : Bool) (b h : ℕ) (x : Shift) (d d′ : Bool) (n : ℕ) → slaveStep (ss phase b h) (chosen true x) (wire (inFrame phase d)) (wire (inFrame (not phase) d′)) n ≡ captureStep b (d′ && true) (chosen true x)
@@ -107,7 +112,7 @@ module _ (phase : Bool) (b h w v : ℕ) (k : Queues) (m : b ≤ 16) where
       slot-of (sm phase b h) (ss phase b h) (drivenAt phase b h w v k c n) (now c n) (capturedAt phase b h w v k c (n + 1) .m) (capturedAt phase b h w v k c (n + 1) .s) (capturedAt phase b h w v k c (n + 1) .s)
       (acted-by (sm phase b h) n (shifted c (bitOf b w c) w (top b v c)) (k .mtx) (k .mrx) _ _ (bitOf b v c && true) Capture (noWord (sending n x)) (motorola-capture phase b n c e (omega arith))
       (capture-in b (bitOf b v c && true) (sending n (shifted c (bitOf b w c) w (top b v c))) l ∙ ap (λ (r : ℕ). noWord (sending n (shifted (c + 1) (bitOf b w c) w r))) (next-bit b v c (omega arith) m))
-      (lines-at phase b h n x (not phase) (levels-capture phase b n c e (omega arith))))
+      (lines-at phase b h n x (not phase) (omega arith) (levels-capture phase b n c e (omega arith))))
       (next-in (sm phase b h) n x (k .mtx) (k .mrx) _ (omega arith))
       (slave-by (ss phase b h) _ _ (drivenAt phase b h w v k c n .s) (noWord (chosen true x′)) (chosen true x′) (shown (bitOf b v c))
       (slave-captures phase b h (shifted c (bitOf b v c) v (top b w c)) (bitOf b w c) (bitOf b w c) _
@@ -126,7 +131,7 @@ module _ (phase : Bool) (b h w v : ℕ) (k : Queues) (m : b ≤ 16) where
       let x′ = shifted (c + 1) (bitOf b v (c + 1)) v (top b w (c + 1)) in
       slot-of (sm phase b h) (ss phase b h) (capturedAt phase b h w v k c n) (pairRun c n) (drivenAt phase b h w v k (c + 1) (n + 1) .m) (drivenAt phase b h w v k (c + 1) (n + 1) .s) (drivenAt phase b h w v k (c + 1) (n + 1) .s)
       (acted-by (sm phase b h) n (shifted (c + 1) (bitOf b w c) w (top b v (c + 1))) (k .mtx) (k .mrx) _ _ (bitOf b v c && true) (Drive (c + 1)) (noWord (sending n x)) (motorola-drive phase b n (c + 1) e l) refl
-      (lines-at phase b h n x phase (levels-drive phase b n (c + 1) e l)))
+      (lines-at phase b h n x phase (omega arith) (levels-drive phase b n (c + 1) e l)))
       (next-in (sm phase b h) n x (k .mtx) (k .mrx) _ (omega arith))
       (slave-by (ss phase b h) _ _ (capturedAt phase b h w v k c n .s) (noWord (chosen true x′)) (chosen true x′) (shown (bitOf b v (c + 1)))
       (slave-drives phase b h (shifted (c + 1) (bitOf b v c) v (top b w (c + 1))) (bitOf b w c) (bitOf b w (c + 1)) _)
@@ -174,7 +179,7 @@ module _ (phase : Bool) (b h w v : ℕ) (k : Queues) (m : b ≤ 16) where
       (acted-by (sm phase b h) n (shifted c (bitOf b w c) w (top b v c)) (k .mtx) (k .mrx) _ _ (bitOf b v c && true) Capture
       (completed (sending n (shifted c (bitOf b w c) w (top b v c))) (cut b v)) (motorola-capture phase b n c e (omega arith))
       (capture-last b (bitOf b v c && true) (sending n (shifted c (bitOf b w c) w (top b v c))) v l (last-bit b v c l m))
-      (lines-at phase b h n x (not phase) (levels-capture phase b n c e (omega arith))))
+      (lines-at phase b h n x (not phase) (omega arith) (levels-capture phase b n c e (omega arith))))
       (next-in (sm phase b h) n x (k .mtx) (push (cut b v) (k .mrx)) _ (omega arith))
       (slave-by (ss phase b h) _ _ (drivenAt phase b h w v k c n .s) (completed (chosen true (shifted c (bitOf b v c) v (top b w c))) (cut b w)) (chosen false x′) (shown (bitOf b v c))
       (slave-captures phase b h (shifted c (bitOf b v c) v (top b w c)) (bitOf b w c) (bitOf b w c) _

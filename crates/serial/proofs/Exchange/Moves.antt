@@ -13,7 +13,7 @@ use Rattle.registers.specs.declared.settings.Settings.{Settings}
 use Rattle.serial.specs.Bits.{cut, shiftedIn}
 use Rattle.serial.specs.Engine.{withShift, noWord, capturedOf, completes, captureStep}
 use Rattle.serial.specs.Slots.{eventOf, lastSlot}
-use Rattle.serial.specs.Lines.{masterLines, slaveLines}
+use Rattle.serial.specs.Lines.{masterLines, slaveLines, masterTxd}
 use Rattle.serial.specs.Master.{act, masterStep, acting, dataBit}
 use Rattle.serial.specs.Slave.{slaveStep, slaveEnd}
 use Rattle.serial.specs.Pair.{wire}
@@ -65,12 +65,12 @@ slot-parts sm ss t y m s′ s″ p q r z =
     ∙ ap (λ (v : Side). record { m = m; s = v }) z
 
 -- the master's event in a frame
-event-step : (s : Settings) (n : ℕ) (x : Shift) (w : Bool) (i : ℕ) (d : Bool) (v : Event) → eventOf s (slots n) ≡ v → masterStep s (sending n x) w i d ≡ act s (sending n x) w i (dataBit s (sending n x) d) v
+event-step : (s : Settings) (n : ℕ) (x : Shift) (w : Bool) (i : ℕ) (d : Bool) (v : Event) → eventOf s (slots n) ≡ v → masterStep s (sending n x) w i d ≡ act s (sending n x) w i (dataBit s (masterTxd s (sending n x)) d) v
 unfolding masterStep acting
-event-step s n x w i d v e = ap (act s (sending n x) w i (dataBit s (sending n x) d)) e
+event-step s n x w i d v e = ap (act s (sending n x) w i (dataBit s (masterTxd s (sending n x)) d)) e
 
 pub acted-by : (s : Settings) (n : ℕ) (x : Shift) (tx : List ℕ) (rx : Receiver) (l l′ : Lines) (d : Bool) (v : Event) (r : Step)
-    → eventOf s (slots n) ≡ v → act s (sending n x) (waits tx) (getD tx 0 0) (dataBit s (sending n x) d) v ≡ r → masterLines s (r .engine) ≡ l′
+    → eventOf s (slots n) ≡ v → act s (sending n x) (waits tx) (getD tx 0 0) (dataBit s (masterTxd s (sending n x)) d) v ≡ r → masterLines s (r .engine) ≡ l′
     → acted s (record { tx = tx; rx = rx; engine = sending n x; lines = l }) d ≡ moved r (record { tx = tx; rx = rx; engine = sending n x; lines = l }) l′
 unfolding acted
 acted-by s n x tx rx l l′ d v r e a q =

@@ -53,7 +53,7 @@ module _ (b h : ℕ) (l : 0 < b) where
       rw (top-zero b v, top-zero b w)
       (slot-of (sm false b h) (ss false b h) (begunAt b w v k) (record { tx = k .mtx; rx = k .mrx; engine = sending 1 x; lines = inFrame false (bitOf b w 0) })
       (record { tx = k .mtx; rx = k .mrx; engine = sending 2 x; lines = inFrame false (bitOf b w 0) }) (begunAt b w v k .s) (begunAt b w v k .s)
-      (acted-by (sm false b h) 1 (loaded w) (k .mtx) (k .mrx) _ _ (bitOf b v 0 && true) (Drive 0) (noWord (sending 1 x)) (motorola-drive false b 1 0 refl l) refl (lines-at false b h 1 x false (levels-drive false b 1 0 refl l)))
+      (acted-by (sm false b h) 1 (loaded w) (k .mtx) (k .mrx) _ _ (bitOf b v 0 && true) (Drive 0) (noWord (sending 1 x)) (motorola-drive false b 1 0 refl l) refl (lines-at false b h 1 x false (omega arith) (levels-drive false b 1 0 refl l)))
       (next-in (sm false b h) 1 x (k .mtx) (k .mrx) _ (omega arith))
       (calm false b h (k .stx) (k .srx) true x′ false false (bitOf b w 0) (in-word false b h x′ l))
       (calm false b h (k .stx) (k .srx) true x′ false (bitOf b w 0) (bitOf b w 0) (in-word false b h x′ l)) refl)
@@ -65,7 +65,7 @@ hold-slot b h w v k c n e =
     let x = shifted (c + 1) (bitOf b w c) w (cut b v) in
     let x′ = shifted (c + 1) (bitOf b v c) v (cut b w) in
     slot-of (sm false b h) (ss false b h) (filledAt b w v k c true n) (filledAt b w v k c false n .m) (filledAt b w v k c false (n + 1) .m) (filledAt b w v k c false n .s) (filledAt b w v k c false n .s)
-    (acted-by (sm false b h) n x (k .mtx) (k .mrx) _ _ (bitOf b v c && true) Pause (noWord (sending n x)) (motorola-last false b n e) refl (lines-at false b h n x false (levels-last false b n e)))
+    (acted-by (sm false b h) n x (k .mtx) (k .mrx) _ _ (bitOf b v c && true) Pause (noWord (sending n x)) (motorola-last false b n e) refl (lines-at false b h n x false (omega arith) (levels-last false b n e)))
     (next-in (sm false b h) n x (k .mtx) (k .mrx) _ (omega arith))
     (slave-by (ss false b h) (wire (inFrame true (bitOf b w c))) (wire (inFrame false (bitOf b w c))) (filledAt b w v k c true n .s) (noWord (chosen false x′)) (chosen false x′) (shown (bitOf b v c)) refl (ended false b h x′) refl)
     (calm false b h (k .stx) (k .srx) false x′ false (bitOf b w c) (bitOf b w c) (ended false b h x′)) refl

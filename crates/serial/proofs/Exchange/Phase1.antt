@@ -61,7 +61,7 @@ module _ (b h : ℕ) (l : 0 < b) where
       rw (top-zero b (front vs), top-zero b w)
       (slot-of (sm true b h) (ss true b h) (selectedAt w (holding ws q vs r)) (record { tx = ws; rx = q; engine = sending 1 x; lines = inFrame true (bitOf b w 0) })
       (record { tx = ws; rx = q; engine = sending 2 x; lines = inFrame true (bitOf b w 0) }) y y
-      (acted-by (sm true b h) 1 (loaded w) ws q _ _ false (Drive 0) (noWord (sending 1 x)) (motorola-drive true b 1 0 refl l) refl (lines-at true b h 1 x true (levels-drive true b 1 0 refl l)))
+      (acted-by (sm true b h) 1 (loaded w) ws q _ _ false (Drive 0) (noWord (sending 1 x)) (motorola-drive true b 1 0 refl l) refl (lines-at true b h 1 x true (omega arith) (levels-drive true b 1 0 refl l)))
       (next-in (sm true b h) 1 x ws q _ (omega arith))
       (slave-by (ss true b h) _ _ (selectedAt w (holding ws q vs r) .s) (begun (chosen false clearShift) x′) (chosen true x′) (shown (bitOf b (front vs) 0)) (slave-takes b h clearShift false (bitOf b w 0) (front vs)) (in-word true b h x′ l) refl)
       (calm true b h (rest vs) r true x′ true (bitOf b w 0) (bitOf b w 0) (in-word true b h x′ l)) refl)
@@ -81,7 +81,7 @@ module _ (b h : ℕ) (l : 0 < b) where
       (record { tx = ws; rx = q; engine = sending 2 x; lines = inFrame true (bitOf b u 0) }) y y
       (acted-by (sm true b h) n x0 (u ∷ ws) q _ _ (bitOf b v c && true) (Chain (slots 1)) (begun (sending 1 x0) x) (motorola-last true b n e)
       (ap (λ (t : Bool). pick t (begun (sending 1 x0) x) (noWord (sending n x0))) (waits-cons u ws))
-      (lines-at true b h 1 x true (levels-drive true b 1 0 refl l)))
+      (lines-at true b h 1 x true (omega arith) (levels-drive true b 1 0 refl l)))
       (next-in (sm true b h) 1 x ws q _ (omega arith))
       (slave-by (ss true b h) _ _ (filledAt b w v (holding (u ∷ ws) q vs r) c false n .s) (begun (chosen false (shifted (c + 1) (bitOf b v c) v (cut b w))) x′) (chosen true x′) (shown (bitOf b (front vs) 0))
       (slave-takes b h (shifted (c + 1) (bitOf b v c) v (cut b w)) (bitOf b w c) (bitOf b u 0) (front vs)) (in-word true b h x′ l) refl)
@@ -97,7 +97,7 @@ hold-slot b h w v q vs r c n e =
     let x′ = shifted (c + 1) (bitOf b v c) v (cut b w) in
     let still-there = calm true b h vs r false x′ false (bitOf b w c) (bitOf b w c) (ended true b h x′) in
     slot-of (sm true b h) (ss true b h) (filledAt b w v k c false n) (filledAt b w v k c false n .m) (filledAt b w v k c false (n + 1) .m) (filledAt b w v k c false n .s) (filledAt b w v k c false n .s)
-    (acted-by (sm true b h) n x [] q _ _ (bitOf b v c && true) (Chain (slots 1)) (noWord (sending n x)) (motorola-last true b n e) refl (lines-at true b h n x false (levels-last true b n e)))
+    (acted-by (sm true b h) n x [] q _ _ (bitOf b v c && true) (Chain (slots 1)) (noWord (sending n x)) (motorola-last true b n e) refl (lines-at true b h n x false (omega arith) (levels-last true b n e)))
     (next-in (sm true b h) n x [] q _ (omega arith))
     still-there still-there refl
 

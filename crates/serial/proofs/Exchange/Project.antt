@@ -3,7 +3,7 @@ use Prim.Native.Nat.{ℕ}
 use mathlib.Core.Path.{_≡_, refl, sym, ap, ap₂, _∙_}
 use mathlib.Core.Bool.{Bool, true, false, not, _&&_}
 use mathlib.Core.List.{List, [], _∷_, _++_, append-nil}
-use lib.Dec.{eqb}
+use lib.Dec.{eqb, ltb}
 use lib.ListN.{length, getD}
 use Rattle.registers.specs.Time.{divisor}
 use Rattle.registers.specs.Choose.{pick}
@@ -15,7 +15,7 @@ use Rattle.registers.specs.declared.settings.Format.the-variants.{Motorola, Ti,
 use Rattle.registers.specs.declared.settings.Settings.{Settings}
 use Rattle.serial.specs.Engine.{noWord}
 use Rattle.serial.specs.Slots.{eventOf, lastSlot, widthOf, levelsOf}
-use Rattle.serial.specs.Lines.{differ, masterLines, slaveLines, frameLines, linesOf}
+use Rattle.serial.specs.Lines.{differ, masterLines, slaveLines, frameLines, linesOf, masterTxd}
 use Rattle.serial.specs.Master.{act, masterStep, masterEnd, ticked, acting, dataBit}
 use Rattle.serial.specs.Slave.{slaveStep, slaveEnd, motorolaSlave, motorolaSelect, motorolaEdges, motorolaClock, captureEdge, driveEdge, tiSlave, tiFalls, tiRises}
 use Rattle.serial.specs.Cycle.{DeviceModel, stepOf, endOf, takeIf, receiveIf, deviceStep, completedOf, cycleOf}
@@ -101,12 +101,12 @@ pub data Serial : Format → Type 0 where
   ti : Serial Ti
 
 lines-plain : {f : Format} → Serial f → (phase p : Bool) (b h : ℕ) (o : Bool) (e : Engine) → masterLines (given f phase p b h false o) e ≡ turnLines (turns f p) (masterLines (plain f phase b h false) e)
-unfolding masterLines levelsOf frameLines
+unfolding masterLines masterTxd levelsOf frameLines
 lines-plain motorola phase p b h o e = go (e .frame) (levelsOf (plain Motorola phase b h false) (not (eqb (e .shift .captured) 0)) (e .slot))
   where
-    go : (t : Bool) (v : Levels) → pick t (frameLines (given Motorola phase p b h false o) v (e .shift .level)) (record { clk = p; fss = true; txd = false; released = true })
-        ≡ turnLines p (pick t (frameLines (plain Motorola phase b h false) v (e .shift .level)) (record { clk = false; fss = true; txd = false; released = true }))
-    go true v = ap (λ (c : Bool). record { clk = c; fss = v .fss; txd = e .shift .level; released = v .released }) (differ-low (v .clk) p)
+    go : (t : Bool) (v : Levels) → pick t (frameLines (given Motorola phase p b h false o) v (ltb 0 (e .slot .0) && e .shift .level)) (record { clk = p; fss = true; txd = false; released = true })
+        ≡ turnLines p (pick t (frameLines (plain Motorola phase b h false) v (ltb 0 (e .slot .0) && e .shift .level)) (record { clk = false; fss = true; txd = false; released = true }))
+    go true v = ap (λ (c : Bool). record { clk = c; fss = v .fss; txd = ltb 0 (e .slot .0) && e .shift .level; released = v .released }) (differ-low (v .clk) p)
     go false v = refl
 lines-plain ti phase p b h o e =
     let l = masterLines (plain Ti phase b h false) e in

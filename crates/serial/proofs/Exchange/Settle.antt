@@ -6,7 +6,7 @@ use native.Mathlib.Omega.{arith}
 use lib.ListN.{getD}
 use Rattle.registers.specs.declared.settings.Settings.{Settings}
 use Rattle.serial.specs.Engine.{noWord}
-use Rattle.serial.specs.Lines.{masterLines}
+use Rattle.serial.specs.Lines.{masterLines, masterTxd}
 use Rattle.serial.specs.Master.{masterEnd}
 use Rattle.serial.specs.Pair.{wire}
 use Rattle.serial.proofs.WithinSlot.{step-within, elapsedAt, step-elapsed, Live, nextSlot, afterCycles, end-elapsed, after-within, after-last, next-elapsed}
@@ -27,7 +27,7 @@ nextSide s x = withEngine x (nextSlot s (x .engine))
 
 module _ (s : Settings) where
   acted-within : (x : Side) (c : ℕ) (d : Bool) → x .lines ≡ masterLines s (x .engine) → acted s (elapsedSide (c + 1) x) d ≡ elapsedSide (c + 1) x
-  unfolding acted masterLines
+  unfolding acted masterLines masterTxd
   acted-within x c d k =
       let y = elapsedSide (c + 1) x in
       ap (λ (r : Step). moved r y (masterLines s (r .engine))) (step-within s (y .engine) (waits (x .tx)) (getD (x .tx) 0 0) d (omega arith))

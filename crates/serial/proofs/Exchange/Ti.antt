@@ -15,7 +15,7 @@ use Rattle.registers.specs.declared.settings.Settings.{Settings}
 use Rattle.serial.specs.Bits.{bitOf, cut}
 use Rattle.serial.specs.Engine.{cleared, clearShift, withShift, noWord, begun, loaded, started, driven, captureStep}
 use Rattle.serial.specs.Slots.{eventOf, tiEvent, lastSlot, widthOf, tiLevels, levelsOf}
-use Rattle.serial.specs.Lines.{masterLines, slaveLines, frameLines}
+use Rattle.serial.specs.Lines.{masterLines, slaveLines, frameLines, masterTxd}
 use Rattle.serial.specs.Master.{act, masterStep, masterEnd, acting, resting, dataBit, joinedShift}
 use Rattle.serial.specs.Slave.{withMark, slaveStep, slaveEnd, tiSlave, tiFalls, tiRises}
 use Rattle.serial.specs.Pair.{wire}
@@ -57,14 +57,15 @@ module _ (phase : Bool) (b h : ℕ) where
   ss = plain Ti phase b h true
 
   lines-at : (n : ℕ) (x : Shift) (c : Bool) → tiLevels (not (eqb (x .captured) 0)) n ≡ lowAt c → masterLines (plain Ti phase b h false) (sending n x) ≡ bitLines c false (x .level)
-  unfolding masterLines levelsOf frameLines
-  lines-at n x c e = ap (λ (v : Levels). frameLines (plain Ti phase b h false) v (x .level)) e
+  unfolding masterLines masterTxd levelsOf frameLines
+  lines-at n x c e = ap (λ (v : Levels). frameLines (plain Ti phase b h false) v (not (v .released) && x .level)) e
 
   -- in slots 0 and 1 of a joined word
   lines-joined : (n : ℕ) (x : Shift) (c : Bool) → (eqb (x .captured) 0) ≡ false → tiLevels true n ≡ record { clk = c; fss = true; released = false } → masterLines (plain Ti phase b h false) (sending n x) ≡ bitLines c true (x .level)
-  unfolding masterLines levelsOf frameLines
+  unfolding masterLines masterTxd levelsOf frameLines
   lines-joined n x c z e =
-      ap (λ (t : Bool). frameLines (plain Ti phase b h false) (levelsOf (plain Ti phase b h false) (not t) (slots n)) (x .level)) z ∙ ap (λ (v : Levels). frameLines (plain Ti phase b h false) v (x .level)) e
+      let S = plain Ti phase b h false in
+      ap (λ (t : Bool). frameLines S (levelsOf S (not t) (slots n)) (not (levelsOf S (not t) (slots n) .released) && x .level)) z ∙ ap (λ (v : Levels). frameLines S v (not (v .released) && x .level)) e
 
   -- The slave's edges ----------------------------------------------------------------------------------------------------
 
@@ -152,10 +153,10 @@ module _ (phase : Bool) (b h : ℕ) where
 
   open-acts : (w : ℕ) (ws : List ℕ) (q : Receiver) (d : Bool)
       → acted sm (record { tx = w ∷ ws; rx = q; engine = cleared; lines = tiIdle }) d ≡ record { tx = ws; rx = q; engine = sending 0 (loaded w); lines = lined true true false true }
-  unfolding acted masterStep acting resting eventOf tiEvent masterLines levelsOf tiLevels frameLines
+  unfolding acted masterStep acting resting eventOf tiEvent masterLines masterTxd levelsOf tiLevels frameLines
   open-acts w ws q d =
       let x : Side = record { tx = w ∷ ws; rx = q; engine = cleared; lines = tiIdle } in
-      let r : Step = act sm cleared (waits (w ∷ ws)) w (dataBit sm cleared d) (eventOf sm (slots 0)) in
+      let r : Step = act sm cleared (waits (w ∷ ws)) w (dataBit sm (masterTxd sm cleared) d) (eventOf sm (slots 0)) in
       ap (λ (t : Bool). moved (pick t r (noWord cleared)) x (masterLines sm (pick t r (noWord cleared) .engine))) (waits-cons w ws)
 
   open-slot : (w : ℕ) (ws : List ℕ) (q : Receiver) (vs : List ℕ) (r : Receiver)
@@ -171,7 +172,7 @@ module _ (phase : Bool) (b h : ℕ) where
 
   mark-slot : (w : ℕ) (k : Queues) → 0 < b
       → Slot sm ss (openedAt w k) (record { tx = k .mtx; rx = k .mrx; engine = sending 1 (loaded w); lines = lined false true false true }) (markedAt w k 0 false 0 true)
-  unfolding wire lastSlot slaveLines slaveEnd slaveStep tiSlave tiFalls eventOf tiEvent masterLines levelsOf tiLevels frameLines dataBit
+  unfolding wire lastSlot slaveLines slaveEnd slaveStep tiSlave tiFalls eventOf tiEvent masterLines masterTxd levelsOf tiLevels frameLines dataBit
   mark-slot w k l =
       slot-of sm ss (openedAt w k) (record { tx = k .mtx; rx = k .mrx; engine = sending 1 (loaded w); lines = lined false true false true })
       (markedAt w k 0 false 0 true .m) (markedAt w k 0 false 0 true .s) (markedAt w k 0 false 0 true .s)
@@ -365,7 +366,7 @@ module _ (phase : Bool) (b h : ℕ) where
     -- the lines go idle, and no edge is seen any more
     done-ever : (i : ℕ) (q : Receiver) (vs : List ℕ) (r : Receiver) (d e f₁ d₁ f₂ d₂ f₃ d₃ : Bool)
         → Holds q r (iterate i (coreCycle sm ss) (mk (record { tx = []; rx = q; engine = cleared; lines = lined false false d e }) (idle (holding [] q vs r) .s) (quietPins f₁ d₁) (quietPins f₂ d₂) (quietPins f₃ d₃)))
-    unfolding coreCycle masterSide acted masterStep masterEnd acting resting masterLines slaveLines slaveEnd slaveStep tiSlave slaveSide wire
+    unfolding coreCycle masterSide acted masterStep masterEnd acting resting masterLines masterTxd slaveLines slaveEnd slaveStep tiSlave slaveSide wire
     done-ever zero q vs r d e f₁ d₁ f₂ d₂ f₃ d₃ = (refl, refl)
     done-ever (suc i) q vs r d e f₁ d₁ f₂ d₂ f₃ d₃ = done-ever i q vs r false true false (d && not e) f₁ d₁ f₂ d₂
 
@@ -378,7 +379,7 @@ module _ (phase : Bool) (b h : ℕ) where
     last-ever w (u ∷ ws) q vs r i = last-ever u ws (push (cut b (front vs)) q) (rest vs) (push (cut b w) r) i
 
     idle-stays : (q : Receiver) (vs : List ℕ) (r : Receiver) → coreCycle sm ss (rested (idle (holding [] q vs r))) ≡ rested (idle (holding [] q vs r))
-    unfolding coreCycle masterSide acted masterStep masterEnd acting resting masterLines slaveLines slaveEnd slaveStep tiSlave slaveSide wire
+    unfolding coreCycle masterSide acted masterStep masterEnd acting resting masterLines masterTxd slaveLines slaveEnd slaveStep tiSlave slaveSide wire
     idle-stays q vs r = refl
 
     pub exchange : Exchange (plain Ti phase b h false) (plain Ti phase b h true) b (lined false false false true) (λ n. 2 * b * suc n + 2)

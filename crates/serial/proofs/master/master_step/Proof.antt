@@ -9,6 +9,9 @@ acting-requires c κs = search needs
 event-of-requires : tie.Need-event-of-requires
 event-of-requires c κs = search needs
 
+master-txd-requires : tie.Need-master-txd-requires
+master-txd-requires c κs = search needs
+
 data-bit-requires : tie.Need-data-bit-requires
 data-bit-requires c κs = search needs
 
@@ -17,7 +20,7 @@ act-requires c κs = search needs
 
 returns : tie.Need-returns
 unfolding masterStep
-returns c = rw (← c .before .before .before .before .acting .ensures, c .before .before .before .if1 .taken, c .act .ensures, c .before .before .event-of .ensures, c .before .data-bit .ensures)
+returns c = rw (← c .before .before .before .before .before .acting .ensures, c .before .before .before .before .if1 .taken, c .act .ensures, c .before .before .before .event-of .ensures, c .before .data-bit .ensures, c .before .before .master-txd .ensures)
 
 no-word-requires : tie.Need-no-word-requires
 no-word-requires c κs = search needs
@@ -32,6 +35,7 @@ master-step-spec =
     (tie.spec
     acting-requires
     event-of-requires
+    master-txd-requires
     data-bit-requires
     act-requires
     returns
