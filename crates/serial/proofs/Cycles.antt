@@ -1,7 +1,10 @@
 -- What a cycle leaves of the control registers and of the words to send, and what it does with SSE clear.
 use Prim.Native.Nat.{ℕ}
 use mathlib.Core.Path.{_≡_, refl, ap, _∙_}
-use mathlib.Core.Bool.{Bool, true, false}
+use mathlib.Core.Bool.{Bool, true, false, not}
+use mathlib.Core.List.{List, _∷_}
+use lib.Dec.{eqb, eqb·suc-zero}
+use lib.ListN.{length}
 use Rattle.registers.specs.Choose.{pick}
 use Rattle.registers.proofs.Picks.{pick-no, pick-both}
 use Rattle.registers.specs.Model.{Model}
@@ -30,6 +33,13 @@ control-cycle d pins = step-keeps (λ (x : Model). x .control ≡ d .registers .
 pub masks-cycle : (d : DeviceModel) (pins : Pins) → cycleOf d pins .registers .masks ≡ d .registers .masks
 unfolding cycleOf endCycle takeWord receiveWord
 masks-cycle d pins = step-keeps (λ (x : Model). x .masks ≡ d .registers .masks) (d .registers) (deviceStep d pins) (λ x h. h) (λ x h. h) refl
+
+-- a word waits to be sent
+abbrev pub waits : List ℕ → Bool
+waits ws = not (eqb (length ws) 0)
+
+pub waits-cons : (w : ℕ) (ws : List ℕ) → waits (w ∷ ws) ≡ true
+waits-cons w ws = ap not (eqb·suc-zero (length ws))
 
 pub step-tx : (m : Model) (t c : Bool) (w : ℕ) (f : Bool) → endCycle (receiveIf (takeIf m t) c w) f .tx ≡ pick t (rest (m .tx)) (m .tx)
 unfolding endCycle receiveIf takeIf receiveWord takeWord

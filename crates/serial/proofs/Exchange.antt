@@ -1,10 +1,7 @@
 -- A wired master and slave exchange their words: demand 3's first part. Claim is the end, Settle the middle.
-pub mod Trace
-pub mod Top
 pub mod Core
 pub mod Settle
 pub mod Quiet
-pub mod Events
 pub mod Moves
 pub mod Motorola
 pub mod Ends

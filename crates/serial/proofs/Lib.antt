@@ -8,7 +8,10 @@ pub mod Soundness
 pub mod Unreceived
 pub mod Inputs
 pub mod WithinSlot
-pub mod Exchange
+pub mod Trace
+pub mod Top
+pub mod Events
 pub mod Drawing
+pub mod Exchange
 pub mod Recordings
 pub mod Premises

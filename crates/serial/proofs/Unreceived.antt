@@ -16,8 +16,7 @@ use Rattle.serial.specs.Slots.{eventOf, lastSlot}
 use Rattle.serial.specs.Lines.{masterLines, linesOf, masterTxd}
 use Rattle.serial.specs.Master.{joinedShift, act, resting, acting, dataBit, masterStep, ticked, masterEnd}
 use Rattle.serial.specs.Cycle.{DeviceModel, stepOf, endOf, deviceStep, cycleOf}
-use Rattle.serial.proofs.Cycles.{control-cycle, tx-cycle}
-use Rattle.serial.proofs.Exchange.Core.{waits}
+use Rattle.serial.proofs.Cycles.{control-cycle, tx-cycle, waits}
 use Rattle.serial.specs.declared.engine.Shift.{Shift}
 use Rattle.serial.specs.declared.engine.Engine.{Engine}
 use Rattle.serial.specs.declared.engine.Step.{Step}

@@ -19,6 +19,7 @@ use Rattle.serial.specs.Master.{act, resting, acting, dataBit, masterSte
 use Rattle.serial.specs.Cycle.{DeviceModel, stepOf, endOf, deviceStep, cycleOf}
 use Rattle.serial.proofs.Cycles.{control-cycle, cycle-stopped}
 use Rattle.serial.proofs.Unreceived.{Masters, masters-cycle}
+use Rattle.serial.specs.declared.engine.Shift.{Shift}
 use Rattle.serial.specs.declared.engine.Engine.{Engine}
 use Rattle.serial.specs.declared.engine.Step.{Step}
 use Rattle.serial.specs.declared.lines.Pins.{Pins}
@@ -37,6 +38,13 @@ step-within s e waiting next rxd h =
 -- with c cycles of the slot elapsed
 abbrev pub elapsedAt : ℕ → Engine → Engine
 elapsedAt c e = record { slot = e .slot; elapsed = cycles c; frame = e .frame; selected = e .selected; mark = e .mark; shift = e .shift }
+
+-- in slot n of a frame
+abbrev pub sending : ℕ → Shift → Engine
+sending n x = record { slot = slots n; elapsed = cycles 0; frame = true; selected = false; mark = false; shift = x }
+
+abbrev pub shifted : ℕ → Bool → ℕ → ℕ → Shift
+shifted c d w r = record { captured = c; level = d; sending = w; receiving = r }
 
 act-elapsed : (s : Settings) (e : Engine) (w : Bool) (n : ℕ) (d : Bool) (v : Event) → act s e w n d v .engine .elapsed ≡ e .elapsed
 unfolding captureStep

@@ -22,13 +22,12 @@ use Rattle.serial.specs.Lines.{masterLines, idleOn, frameLines, masterTx
 use Rattle.serial.specs.Master.{act, resting, acting, dataBit, masterStep, ticked, masterEnd}
 use Rattle.serial.specs.Cycle.{DeviceModel, cycleOf, after}
 use Rattle.serial.specs.Busy.{busyDevice}
-use Rattle.serial.proofs.Exchange.Ends.{waits-cons}
-use Rattle.serial.proofs.Exchange.Moves.{sending, shifted}
-use Rattle.serial.proofs.Exchange.Trace.{iterate, iterate-add}
+use Rattle.serial.proofs.Cycles.{waits-cons}
+use Rattle.serial.proofs.Trace.{iterate, iterate-add}
 use Rattle.serial.specs.Drawing.{slotTotal, drawing, stretch}
 use Rattle.serial.proofs.Drawing.Told.{Serves, idle-released, length-stretch, length-drawing}
 use Rattle.serial.proofs.Unreceived.{withoutReceived, shiftWithoutReceived, stepWithoutReceived}
-use Rattle.serial.proofs.WithinSlot.{elapsedAt, Live, afterCycles, after-within}
+use Rattle.serial.proofs.WithinSlot.{elapsedAt, Live, afterCycles, after-within, sending, shifted}
 use Rattle.serial.proofs.Drawing.Solo.{Solo, moves, acted, cycle, soloOf, Runs, solo-cycle, runs-cycle, Goes, none, more}
 use Rattle.serial.proofs.Drawing.Slot.{fixed, solo, on, restAt, Slot, cycle-within, first-cycle, slot-goes, draws-goes, Draws, Over, over, Last, last, Until}
 use Rattle.serial.proofs.Drawing.MotorolaWords.{frames0-until, frames1-until}

@@ -2,7 +2,7 @@
 use Prim.Native.Nat.{ℕ, zero, suc, _+_, _*_, _/_, _%_, _<_}
 use mathlib.Core.Path.{_≡_, refl, sym, ap}
 use mathlib.Core.Bool.{Bool, true, false, and-false, not, _&&_}
-use mathlib.Core.List.{List, [], _∷_, _++_}
+use mathlib.Core.List.{List, [], _∷_}
 use native.Mathlib.Omega.{arith}
 use native.Mathlib.Numerals.{add-one}
 use lib.Dec.{leb}
@@ -11,13 +11,13 @@ use Rattle.registers.specs.Time.{slots}
 use Rattle.registers.specs.declared.settings.Format.the-variants.{Microwire}
 use Rattle.registers.specs.declared.settings.Settings.{Settings}
 use Rattle.serial.specs.Bits.{bitOf}
-use Rattle.serial.specs.Engine.{clearShift, started, driven}
+use Rattle.serial.specs.Engine.{started, driven}
 use Rattle.serial.specs.Slots.{eventOf, microwireEvent, lastSlot, widthOf, microwireLevels, levelsOf}
 use Rattle.serial.specs.Lines.{masterLines, frameLines, masterTxd}
 use Rattle.serial.specs.Master.{chainStep}
-use Rattle.serial.proofs.Exchange.Ends.{waits-cons}
-use Rattle.serial.proofs.Exchange.Moves.{sending, shifted}
 use Rattle.serial.specs.Drawing.{low, idle, bitLines, quiet, quiets, chainM, framesM}
+use Rattle.serial.proofs.Cycles.{waits-cons}
+use Rattle.serial.proofs.WithinSlot.{sending, shifted}
 use Rattle.serial.proofs.Unreceived.{stepWithoutReceived}
 use Rattle.serial.proofs.Drawing.Solo.{Solo}
 use Rattle.serial.proofs.Drawing.Slot.{fixed, solo, on, restAt, Slot, Draws, done, draw, draws-end, draws-same, slot-on, slot-start, capture-move, word-run, Over, over, Until, until-done, until-draw, until-then}

@@ -13,9 +13,9 @@ use Rattle.serial.specs.Engine.{clearShift, started, driven}
 use Rattle.serial.specs.Slots.{eventOf, motorolaEvent, lastSlot, widthOf, motorolaLevels, levelsOf}
 use Rattle.serial.specs.Lines.{masterLines, frameLines, masterTxd}
 use Rattle.serial.specs.Master.{chainStep}
-use Rattle.serial.proofs.Exchange.Ends.{waits-cons}
-use Rattle.serial.proofs.Exchange.Moves.{sending, shifted}
-use Rattle.serial.proofs.Exchange.Events.{motorola-drive, motorola-capture, motorola-last, motorola-release, lowAt, levels-drive, levels-capture, levels-last, levels-first}
+use Rattle.serial.proofs.Cycles.{waits-cons}
+use Rattle.serial.proofs.WithinSlot.{sending, shifted}
+use Rattle.serial.proofs.Events.{motorola-drive, motorola-capture, motorola-last, motorola-release, lowAt, levels-drive, levels-capture, levels-last, levels-first}
 use Rattle.serial.specs.Drawing.{low, idle, bitLines, frame0, frames0, chain1, frames1}
 use Rattle.serial.proofs.Unreceived.{stepWithoutReceived}
 use Rattle.serial.proofs.Drawing.Solo.{Solo}

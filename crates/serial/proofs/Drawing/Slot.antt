@@ -16,12 +16,10 @@ use Rattle.serial.specs.Engine.{clearShift, noWord, capturedOf, captureS
 use Rattle.serial.specs.Slots.{eventOf, lastSlot}
 use Rattle.serial.specs.Lines.{masterLines, masterTxd}
 use Rattle.serial.specs.Master.{act, resting, acting, dataBit, masterStep, masterEnd}
-use Rattle.serial.proofs.Exchange.Core.{waits}
-use Rattle.serial.proofs.Exchange.Ends.{waits-cons}
-use Rattle.serial.proofs.Exchange.Moves.{sending, shifted}
 use Rattle.serial.specs.Drawing.{idle, bitLines, stretch}
+use Rattle.serial.proofs.Cycles.{waits, waits-cons}
 use Rattle.serial.proofs.Unreceived.{withoutReceived, stepWithoutReceived}
-use Rattle.serial.proofs.WithinSlot.{step-within, elapsedAt, Live, nextSlot, afterCycles, end-elapsed, after-within, after-last, next-within, next-last}
+use Rattle.serial.proofs.WithinSlot.{step-within, elapsedAt, Live, nextSlot, afterCycles, end-elapsed, after-within, after-last, next-within, next-last, sending, shifted}
 use Rattle.serial.proofs.Drawing.Solo.{Solo, moves, acted, cycle, shows, Goes, none, more}
 use Rattle.serial.specs.declared.engine.Shift.{Shift}
 use Rattle.serial.specs.declared.engine.Engine.{Engine}

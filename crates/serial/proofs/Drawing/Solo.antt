@@ -13,9 +13,8 @@ use Rattle.serial.specs.Engine.{cleared, noWord}
 use Rattle.serial.specs.Lines.{masterLines}
 use Rattle.serial.specs.Master.{masterStep, masterEnd}
 use Rattle.serial.specs.Cycle.{DeviceModel, cycleOf, recording}
-use Rattle.serial.proofs.Cycles.{control-cycle}
+use Rattle.serial.proofs.Cycles.{control-cycle, waits}
 use Rattle.serial.proofs.Unreceived.{withoutReceived, stepWithoutReceived, Masters, sendStep, sendOf, lines-sends, engine-sends, tx-sends}
-use Rattle.serial.proofs.Exchange.Core.{waits}
 use Rattle.serial.specs.declared.engine.Engine.{Engine}
 use Rattle.serial.specs.declared.engine.Step.{Step}
 use Rattle.serial.specs.declared.lines.Lines.{Lines}

@@ -2,7 +2,7 @@
 use Prim.Native.Nat.{ℕ, suc, _+_, _-_, _*_, _<_}
 use mathlib.Core.Path.{_≡_, refl, ap, _∙_}
 use mathlib.Core.Bool.{Bool, true, false, not, _&&_}
-use mathlib.Core.List.{List, [], _∷_, _++_}
+use mathlib.Core.List.{List, [], _∷_}
 use native.Mathlib.Omega.{arith}
 use lib.Dec.{eqb}
 use borrow.Author.Tests.{ne-eqb}
@@ -14,9 +14,9 @@ use Rattle.serial.specs.Engine.{clearShift, started, driven}
 use Rattle.serial.specs.Slots.{eventOf, tiEvent, lastSlot, widthOf, tiLevels, levelsOf}
 use Rattle.serial.specs.Lines.{masterLines, frameLines, masterTxd}
 use Rattle.serial.specs.Master.{joinedShift, joinStep}
-use Rattle.serial.proofs.Exchange.Ends.{waits-cons}
-use Rattle.serial.proofs.Exchange.Moves.{sending, shifted}
-use Rattle.serial.proofs.Exchange.Events.{lowAt, ti-drive, ti-capture, ti-last, ti-levels-even, ti-levels-odd}
+use Rattle.serial.proofs.Cycles.{waits-cons}
+use Rattle.serial.proofs.WithinSlot.{sending, shifted}
+use Rattle.serial.proofs.Events.{lowAt, ti-drive, ti-capture, ti-last, ti-levels-even, ti-levels-odd}
 use Rattle.serial.specs.Drawing.{low, bitLines, marked, held, joined, framesTi}
 use Rattle.serial.proofs.Unreceived.{stepWithoutReceived}
 use Rattle.serial.proofs.Drawing.Solo.{Solo}

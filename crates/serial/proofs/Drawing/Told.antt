@@ -16,7 +16,7 @@ use Rattle.serial.specs.Bits.{bitOf, shiftedIn, cut}
 use Rattle.serial.specs.Lines.{byteOf, idleOn}
 use Rattle.serial.specs.Slots.{widthOn, widthOf}
 use Rattle.serial.specs.Drawing.{low, idle, bitLines, frame0, frames0, chain1, frames1, held, joined, framesTi, quiets, chainM, framesM, drawingOn, drawing, stretch, totalOn, slotTotal}
-use Rattle.serial.proofs.Exchange.Top.{top, top-zero, top-next, top-full}
+use Rattle.serial.proofs.Top.{top, top-zero, top-next, top-full}
 use Rattle.serial.specs.declared.lines.Lines.{Lines}
 
 -- Lists ----------------------------------------------------------------------------------------------------------------

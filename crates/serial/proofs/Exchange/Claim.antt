@@ -25,7 +25,7 @@ use Rattle.serial.proofs.Cycles.{control-cycle, step-stopped}
 use Rattle.serial.specs.Access.{writeDevice}
 use Rattle.serial.proofs.Soundness.{sound-registers}
 use Rattle.serial.specs.Pair.{wire, PairModel, pairCycle, pairRun}
-use Rattle.serial.proofs.Exchange.Trace.{iterate}
+use Rattle.serial.proofs.Trace.{iterate}
 use Rattle.serial.specs.Bits.{cut}
 use Rattle.serial.proofs.Drawing.Recorded.{Fresh}
 use Rattle.serial.proofs.Drawing.Enabled.{fresh-sound}

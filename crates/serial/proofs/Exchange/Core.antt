@@ -2,7 +2,7 @@
 use Prim.Native.Nat.{ℕ, _+_}
 use mathlib.Core.Bool.{Bool, true, false, not, _||_}
 use mathlib.Core.List.{List, [], _∷_, _++_}
-use lib.Dec.{ltb, eqb}
+use lib.Dec.{ltb}
 use lib.ListN.{length, getD}
 use Rattle.registers.specs.Transfer.{added, rest}
 use Rattle.registers.specs.Choose.{pick}
@@ -14,6 +14,7 @@ use Rattle.serial.specs.Master.{masterStep, masterEnd}
 use Rattle.serial.specs.Slave.{slaveStep, slaveEnd}
 use Rattle.serial.specs.Cycle.{follow}
 use Rattle.serial.specs.Pair.{wire}
+use Rattle.serial.proofs.Cycles.{waits}
 use Rattle.serial.specs.declared.History.{History}
 use Rattle.serial.specs.declared.engine.Engine.{Engine}
 use Rattle.serial.specs.declared.engine.Step.{Step}
@@ -43,9 +44,6 @@ plain f phase b h slave =
 -- a step with its words moved
 abbrev pub moved : Step → Side → Lines → Side
 moved r x l = record { tx = pick (r .takes) (rest (x .tx)) (x .tx); rx = pick (r .complete) (push (r .word) (x .rx)) (x .rx); engine = r .engine; lines = l }
-
-abbrev pub waits : List ℕ → Bool
-waits ws = not (eqb (length ws) 0)
 
 abbrev pub masterMoves : Settings → Side → Bool → Step
 masterMoves s x rxd = masterStep s (x .engine) (waits (x .tx)) (getD (x .tx) 0 0) rxd

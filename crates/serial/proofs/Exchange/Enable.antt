@@ -1,18 +1,16 @@
 -- The CR1 write that sets SSE and nothing else.
-use Prim.Native.Nat.{ℕ, _+_, _*_, _/_, _%_, _^_, _≤_, _<_}
-use mathlib.Core.Path.{_≡_, refl, sym, ap, ap₂, _∙_}
-use mathlib.Core.Bool.{Bool, true, false, not, _&&_, _||_, and-false}
+use Prim.Native.Nat.{ℕ, _+_, _*_, _/_, _%_, _≤_, _<_}
+use mathlib.Core.Path.{_≡_, sym, ap, _∙_}
+use mathlib.Core.Bool.{true, false, and-false}
 use native.Mathlib.Omega.{arith}
 use native.Mathlib.Nat.{mod-eq-of-lt, mod-lt, zero-lt-suc, div-eq-of-lt-le}
-use lib.Dec.{leb, eqb}
-use borrow.Author.Tests.{eq-eqb, ne-eqb, lt-leb, eqb-false}
-use Rattle.registers.specs.Choose.{pick, bitAt}
+use borrow.Author.Tests.{ne-eqb, lt-leb, eqb-false}
+use Rattle.registers.specs.Choose.{bitAt}
 use Rattle.registers.specs.Model.{Model}
 use Rattle.registers.specs.Offsets.{registerOf}
 use Rattle.registers.specs.Settings.{settingsOf, enabledOf, permittedOf, divisorOf}
 use Rattle.registers.specs.Access.{writeModel, writeRefusal, cr1Written, cr1Rule}
 use Rattle.registers.specs.declared.Control.{Control}
-use Rattle.registers.specs.declared.settings.Settings.{Settings}
 
 -- the control registers with SSE set
 abbrev pub switchedOn : Control → Control

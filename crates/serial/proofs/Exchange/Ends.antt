@@ -1,10 +1,9 @@
 -- Motorola frames: their beginning and their end, as far as both phases share them; and what a format has to give.
 use Prim.Native.Nat.{ℕ, _+_, _*_, _≤_, _<_}
 use mathlib.Core.Path.{_≡_, refl, sym, ap, _∙_, subst}
-use mathlib.Core.Bool.{Bool, true, false, not, _&&_}
+use mathlib.Core.Bool.{Bool, true, false, _&&_}
 use mathlib.Core.List.{List, [], _∷_, map}
 use native.Mathlib.Omega.{arith}
-use lib.Dec.{eqb·suc-zero}
 use lib.ListN.{length, getD}
 use borrow.Author.Tests.{ne-eqb, lt-ltb, le-ltb}
 use Rattle.registers.specs.Choose.{pick}
@@ -18,13 +17,14 @@ use Rattle.serial.specs.Lines.{masterLines, slaveLines, masterTxd}
 use Rattle.serial.specs.Master.{act, masterStep, masterEnd, acting, resting, dataBit}
 use Rattle.serial.specs.Slave.{slaveStep, slaveEnd, motorolaSlave}
 use Rattle.serial.specs.Pair.{wire}
-use Rattle.serial.proofs.Exchange.Trace.{Trace, none, more, iterate, trace-ever}
-use Rattle.serial.proofs.Exchange.Core.{Receiver, Side, Pair, push, moved, waits, acted, masterSide, slaveSide, coreCycle}
-use Rattle.serial.proofs.WithinSlot.{Live, nextSlot}
+use Rattle.serial.proofs.Cycles.{waits, waits-cons}
+use Rattle.serial.proofs.Trace.{Trace, none, more, iterate, trace-ever}
+use Rattle.serial.proofs.Exchange.Core.{Receiver, Side, Pair, push, moved, acted, masterSide, slaveSide, coreCycle}
+use Rattle.serial.proofs.WithinSlot.{Live, nextSlot, sending, shifted}
 use Rattle.serial.proofs.Exchange.Settle.{Two, slotStep, rested, slots-trace, Settled}
 use Rattle.serial.proofs.Exchange.Quiet.{lawful-motorola}
-use Rattle.serial.proofs.Exchange.Events.{motorola-release, levels-first}
-use Rattle.serial.proofs.Exchange.Moves.{Queues, inFrame, hidden, sending, shifted, acted-by, slave-by, Slot, slot-of, LiveSlot}
+use Rattle.serial.proofs.Events.{motorola-release, levels-first}
+use Rattle.serial.proofs.Exchange.Moves.{Queues, inFrame, hidden, acted-by, slave-by, Slot, slot-of, LiveSlot}
 use Rattle.serial.proofs.Exchange.Motorola.{sm, ss, filledAt, lines-first}
 use Rattle.serial.specs.declared.engine.Engine.{Engine}
 use Rattle.serial.specs.declared.engine.Step.{Step}
@@ -45,9 +45,6 @@ idle k =
 
 abbrev pub holding : List ℕ → Receiver → List ℕ → Receiver → Queues
 holding ws q vs r = record { mtx = ws; mrx = q; stx = vs; srx = r }
-
-pub waits-cons : (w : ℕ) (ws : List ℕ) → waits (w ∷ ws) ≡ true
-waits-cons w ws = ap not (eqb·suc-zero (length ws))
 
 -- an idle master with a waiting word starts slot 0
 abbrev pub opened : ℕ → List ℕ → Receiver → Side

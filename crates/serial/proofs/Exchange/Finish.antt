@@ -11,7 +11,7 @@ use lib.Seq.{take-all, take-append-le}
 use borrow.Author.Tests.{lt-ltb, le-ltb}
 use Rattle.registers.specs.Transfer.{added}
 use Rattle.registers.specs.declared.settings.Settings.{Settings}
-use Rattle.serial.proofs.Exchange.Trace.{iterate, iterate-add, iterate-fixed, trace-map, trace-run}
+use Rattle.serial.proofs.Trace.{iterate, iterate-add, iterate-fixed, trace-map, trace-run}
 use Rattle.serial.specs.Bits.{cut}
 use Rattle.serial.proofs.Exchange.Core.{Receiver, Pair, push, coreCycle}
 use Rattle.serial.proofs.Exchange.Settle.{Two, Lawful, rested, Meets, slots-trace}

@@ -1,39 +1,33 @@
 -- What leads up to the exchange: the master off, its lines idle, until the slave has seen nothing else for three cycles.
-use Prim.Native.Nat.{ℕ, zero, suc, _+_, _*_, _/_, _%_, _≤_, _<_}
-use mathlib.Core.Path.{_≡_, refl, sym, ap, ap₂, _∙_, subst}
-use mathlib.Core.Bool.{Bool, true, false, not, _&&_, _||_, and-false, true≢false, false≢true}
+use Prim.Native.Nat.{ℕ, suc, _+_, _≤_}
+use mathlib.Core.Path.{_≡_, refl, ap, _∙_, subst}
+use mathlib.Core.Bool.{Bool, true, false, not, _&&_}
 use mathlib.Core.List.{List, [], _∷_}
-use mathlib.Core.Logic.{_⊎_, inl, inr}
 use native.Mathlib.Omega.{arith}
-use native.Mathlib.Nat.{mod-eq-of-lt}
-use lib.Dec.{ltb, leb, eqb}
-use borrow.Author.Tests.{eq-eqb, ne-eqb, lt-leb, eqb-false}
+use lib.Dec.{eqb}
 use Rattle.registers.specs.Choose.{pick, bitAt}
-use Rattle.registers.proofs.Picks.{pick-both, pick-ap}
+use Rattle.registers.proofs.Picks.{pick-both}
 use Rattle.registers.specs.Model.{Model}
 use Rattle.registers.specs.Offsets.{registerOf}
-use Rattle.registers.specs.Settings.{settingsOf, enabledOf, permittedOf}
+use Rattle.registers.specs.Settings.{settingsOf, enabledOf}
 use Rattle.registers.specs.Transfer.{endCycle}
-use Rattle.registers.specs.Access.{readModel, readDone, readRefusal, dataTaken, writeModel, writeDone, writeRefusal, cr0Written, cr1Written, cpsrWritten, icrWritten, drWritten, imscWritten, dmacrWritten, cr1Rule}
+use Rattle.registers.specs.Access.{readModel, readDone, readRefusal, dataTaken, writeModel, writeDone, writeRefusal, cr0Written, cr1Written, cpsrWritten, icrWritten, drWritten, imscWritten, dmacrWritten}
 use Rattle.registers.proofs.Accesses.{control-read}
-use Rattle.registers.proofs.Soundness.{sound-elim}
 use Rattle.registers.specs.declared.Control.{Control}
 use Rattle.registers.specs.declared.offsets.Register.{Register}
 use Rattle.registers.specs.declared.offsets.Register.the-variants.{Cr0, Cr1, Dr, Sr, Cpsr, Imsc, Ris, Mis, Icr, Dmacr, Identity, Reserved, Outside}
-use Rattle.registers.specs.declared.settings.Settings.{Settings}
 use Rattle.serial.specs.Engine.{cleared, noWord}
 use Rattle.serial.specs.Lines.{linesOf}
 use Rattle.serial.specs.Cycle.{DeviceModel, endOf, takeIf, receiveIf, stepModel, deviceStep, cycleOf}
 use Rattle.serial.proofs.Cycles.{control-cycle, step-stopped, end-cleared}
 use Rattle.serial.specs.Access.{readDevice, writeDevice, engineAfter}
 use Rattle.serial.specs.Sound.{soundDevice}
-use Rattle.serial.proofs.Soundness.{sound-cycle, sound-read, sound-write, sound-registers}
+use Rattle.serial.proofs.Soundness.{sound-cycle, sound-read, sound-write}
 use Rattle.serial.specs.Pair.{wire, PairModel, pairCycle}
-use Rattle.serial.specs.Demand3.{Which, Step, play, plays, cyclesIn, controlOf, Stays, enables}
+use Rattle.serial.specs.Demand3.{Step, play, plays, cyclesIn, controlOf, Stays}
 use Rattle.serial.specs.Demand3.Which.{master, slave}
 use Rattle.serial.specs.Demand3.Step.{read, write}
 use Rattle.serial.specs.declared.History.{History}
-use Rattle.serial.specs.declared.engine.Engine.{Engine}
 use Rattle.serial.specs.declared.lines.Lines.{Lines}
 use Rattle.serial.specs.declared.lines.Pins.{Pins}
 

@@ -15,16 +15,17 @@ use Rattle.serial.specs.Lines.{masterLines, slaveLines, frameLines, mast
 use Rattle.serial.specs.Master.{dataBit}
 use Rattle.serial.specs.Slave.{slaveStep, slaveEnd, motorolaSlave, motorolaSelect, motorolaEdges, motorolaClock, captureEdge, driveEdge}
 use Rattle.serial.specs.Pair.{wire}
-use Rattle.serial.proofs.Exchange.Trace.{Trace, none, trace-count, trace-end, trace-then}
-use Rattle.serial.proofs.Exchange.Top.{top, top-next, top-last}
+use Rattle.serial.proofs.WithinSlot.{sending, shifted}
+use Rattle.serial.proofs.Trace.{Trace, none, trace-count, trace-end, trace-then}
+use Rattle.serial.proofs.Top.{top, top-next, top-last}
 use Rattle.serial.proofs.Exchange.Core.{Receiver, Side, plain, push, slaveSide}
 use Rattle.serial.proofs.Exchange.Settle.{Two, slotStep}
-use Rattle.serial.proofs.Exchange.Events.{motorola-drive, motorola-capture, lowAt, levels-drive, levels-capture}
+use Rattle.serial.proofs.Events.{motorola-drive, motorola-capture, lowAt, levels-drive, levels-capture}
 use Rattle.serial.specs.declared.engine.Engine.{Engine}
 use Rattle.serial.specs.declared.engine.Shift.{Shift}
 use Rattle.serial.specs.declared.slots.Levels.{Levels}
 use Rattle.serial.specs.declared.slots.Event.the-variants.{Drive, Capture}
-use Rattle.serial.proofs.Exchange.Moves.{Queues, inFrame, shown, sending, shifted, acted-by, next-in, capture-in, completed, capture-last, slave-by, Slot, slot-of, LiveSlot, slot-then}
+use Rattle.serial.proofs.Exchange.Moves.{Queues, inFrame, shown, acted-by, next-in, capture-in, completed, capture-last, slave-by, Slot, slot-of, LiveSlot, slot-then}
 use Rattle.serial.proofs.Exchange.Quiet.{quiet-low}
 
 -- a slave's engine while it is selected

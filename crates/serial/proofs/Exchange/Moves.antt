@@ -8,7 +8,7 @@ use native.Mathlib.Nat.{mod-eq-of-lt, mod-lt}
 use lib.Pow.{pow-pos}
 use lib.ListN.{getD}
 use borrow.Author.Tests.{eq-eqb, ne-eqb, lt-ltb}
-use Rattle.registers.specs.Time.{cycles, slots}
+use Rattle.registers.specs.Time.{slots}
 use Rattle.registers.specs.declared.settings.Settings.{Settings}
 use Rattle.serial.specs.Bits.{cut, shiftedIn}
 use Rattle.serial.specs.Engine.{withShift, noWord, capturedOf, completes, captureStep}
@@ -17,10 +17,11 @@ use Rattle.serial.specs.Lines.{masterLines, slaveLines, masterTxd}
 use Rattle.serial.specs.Master.{act, masterStep, acting, dataBit}
 use Rattle.serial.specs.Slave.{slaveStep, slaveEnd}
 use Rattle.serial.specs.Pair.{wire}
-use Rattle.serial.proofs.Exchange.Core.{Receiver, Side, waits, withEngine, moved, acted, slaveSide}
-use Rattle.serial.proofs.WithinSlot.{Live, next-within}
+use Rattle.serial.proofs.Cycles.{waits}
+use Rattle.serial.proofs.Exchange.Core.{Receiver, Side, withEngine, moved, acted, slaveSide}
+use Rattle.serial.proofs.WithinSlot.{Live, next-within, sending, shifted}
 use Rattle.serial.proofs.Exchange.Settle.{Two, nextSide, slotStep, next}
-use Rattle.serial.proofs.Exchange.Trace.{Trace, more}
+use Rattle.serial.proofs.Trace.{Trace, more}
 use Rattle.serial.proofs.Exchange.Quiet.{side-after}
 use Rattle.serial.specs.declared.engine.Engine.{Engine}
 use Rattle.serial.specs.declared.engine.Shift.{Shift}
@@ -45,13 +46,6 @@ shown d = record { clk = false; fss = true; txd = d; released = false }
 
 abbrev pub hidden : Lines
 hidden = record { clk = false; fss = true; txd = false; released = true }
-
--- a master's engine in slot n of a frame
-abbrev pub sending : ℕ → Shift → Engine
-sending n x = record { slot = slots n; elapsed = cycles 0; frame = true; selected = false; mark = false; shift = x }
-
-abbrev pub shifted : ℕ → Bool → ℕ → ℕ → Shift
-shifted c d w r = record { captured = c; level = d; sending = w; receiving = r }
 
 -- a step put together from its parts
 pub slot-parts : (sm ss : Settings) (t : Two) (y m s′ s″ : Side) → next sm ss t ≡ y → nextSide sm y ≡ m

@@ -15,14 +15,16 @@ use Rattle.serial.specs.Lines.{slaveLines}
 use Rattle.serial.specs.Master.{dataBit}
 use Rattle.serial.specs.Slave.{slaveStep, slaveEnd, motorolaSlave, motorolaSelect, motorolaEdges, captureEdge, driveEdge, motorolaClock}
 use Rattle.serial.specs.Pair.{wire}
-use Rattle.serial.proofs.Exchange.Trace.{Trace, none, iterate, trace-count, trace-then, trace-end}
-use Rattle.serial.proofs.Exchange.Top.{top-zero}
+use Rattle.serial.proofs.Cycles.{waits-cons}
+use Rattle.serial.proofs.WithinSlot.{sending, shifted}
+use Rattle.serial.proofs.Trace.{Trace, none, iterate, trace-count, trace-then, trace-end}
+use Rattle.serial.proofs.Top.{top-zero}
 use Rattle.serial.proofs.Exchange.Core.{Receiver, Side, push, slaveSide, coreCycle}
 use Rattle.serial.proofs.Exchange.Settle.{Two, rested}
-use Rattle.serial.proofs.Exchange.Events.{motorola-drive, motorola-last, levels-drive, levels-last}
-use Rattle.serial.proofs.Exchange.Moves.{Queues, inFrame, shown, hidden, sending, shifted, acted-by, next-in, slave-by, Slot, slot-of, LiveSlot, slot-then}
+use Rattle.serial.proofs.Events.{motorola-drive, motorola-last, levels-drive, levels-last}
+use Rattle.serial.proofs.Exchange.Moves.{Queues, inFrame, shown, hidden, acted-by, next-in, slave-by, Slot, slot-of, LiveSlot, slot-then}
 use Rattle.serial.proofs.Exchange.Motorola.{sm, ss, step, chosen, drivenAt, filledAt, received, lines-at, in-word, calm, ended, word-run}
-use Rattle.serial.proofs.Exchange.Ends.{front, idle, holding, opened, begin-acts, waits-cons, ever, idle-stays, pushAll, answers, Holds, Exchange}
+use Rattle.serial.proofs.Exchange.Ends.{front, idle, holding, opened, begin-acts, ever, idle-stays, pushAll, answers, Holds, Exchange}
 use Rattle.serial.specs.declared.engine.Shift.{Shift}
 use Rattle.serial.specs.declared.slots.Event.the-variants.{Drive, Chain}
 

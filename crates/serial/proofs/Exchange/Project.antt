@@ -20,8 +20,8 @@ use Rattle.serial.specs.Master.{act, masterStep, masterEnd, ticked, acti
 use Rattle.serial.specs.Slave.{slaveStep, slaveEnd, motorolaSlave, motorolaSelect, motorolaEdges, motorolaClock, captureEdge, driveEdge, tiSlave, tiFalls, tiRises}
 use Rattle.serial.specs.Cycle.{DeviceModel, stepOf, endOf, takeIf, receiveIf, deviceStep, completedOf, cycleOf}
 use Rattle.serial.specs.Pair.{wire, PairModel, pairCycle}
-use Rattle.serial.proofs.Cycles.{step-tx}
-use Rattle.serial.proofs.Exchange.Core.{Receiver, Side, Pair, plain, push, moved, waits, withEngine, acted, masterSide, slaveSide, coreCycle}
+use Rattle.serial.proofs.Cycles.{step-tx, waits}
+use Rattle.serial.proofs.Exchange.Core.{Receiver, Side, Pair, plain, push, moved, withEngine, acted, masterSide, slaveSide, coreCycle}
 use Rattle.serial.specs.declared.History.{History}
 use Rattle.serial.specs.declared.engine.Engine.{Engine}
 use Rattle.serial.specs.declared.engine.Step.{Step}

@@ -8,7 +8,7 @@ use Rattle.registers.specs.Choose.{pick}
 use Rattle.registers.specs.declared.settings.Format.{Format}
 use Rattle.registers.specs.declared.settings.Format.the-variants.{Motorola, Ti, Microwire, Reserved}
 use Rattle.registers.specs.declared.settings.Settings.{Settings}
-use Rattle.serial.specs.Engine.{cleared, noWord}
+use Rattle.serial.specs.Engine.{noWord}
 use Rattle.serial.specs.Lines.{slaveLines}
 use Rattle.serial.specs.Slave.{slaveStep, slaveEnd, endedOn, afterTaking, motorolaSlave, motorolaSelect, motorolaEdges, motorolaClock, captureEdge, driveEdge, tiSlave}
 use Rattle.serial.proofs.Exchange.Core.{Side, withEngine, moved, plain, slaveSide}

@@ -9,9 +9,10 @@ use Rattle.serial.specs.Engine.{noWord}
 use Rattle.serial.specs.Lines.{masterLines, masterTxd}
 use Rattle.serial.specs.Master.{masterEnd}
 use Rattle.serial.specs.Pair.{wire}
+use Rattle.serial.proofs.Cycles.{waits}
 use Rattle.serial.proofs.WithinSlot.{step-within, elapsedAt, step-elapsed, Live, nextSlot, afterCycles, end-elapsed, after-within, after-last, next-elapsed}
-use Rattle.serial.proofs.Exchange.Trace.{Trace, none, more, trace-count, trace-end, trace-then}
-use Rattle.serial.proofs.Exchange.Core.{Side, Pair, waits, withEngine, moved, acted, masterSide, slaveSide, coreCycle}
+use Rattle.serial.proofs.Trace.{Trace, none, more, trace-count, trace-end, trace-then}
+use Rattle.serial.proofs.Exchange.Core.{Side, Pair, withEngine, moved, acted, masterSide, slaveSide, coreCycle}
 use Rattle.serial.specs.declared.engine.Step.{Step}
 use Rattle.serial.specs.declared.lines.Pins.{Pins}
 

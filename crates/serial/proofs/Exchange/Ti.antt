@@ -19,16 +19,17 @@ use Rattle.serial.specs.Lines.{masterLines, slaveLines, frameLines, mast
 use Rattle.serial.specs.Master.{act, masterStep, masterEnd, acting, resting, dataBit, joinedShift}
 use Rattle.serial.specs.Slave.{withMark, slaveStep, slaveEnd, tiSlave, tiFalls, tiRises}
 use Rattle.serial.specs.Pair.{wire}
-use Rattle.serial.proofs.Exchange.Trace.{Trace, none, iterate, trace-count, trace-then, trace-end}
-use Rattle.serial.proofs.Exchange.Top.{top, top-zero}
-use Rattle.serial.proofs.Exchange.Core.{Receiver, Side, plain, push, moved, waits, acted, masterSide, slaveSide, coreCycle}
-use Rattle.serial.proofs.WithinSlot.{nextSlot}
+use Rattle.serial.proofs.Cycles.{waits, waits-cons}
+use Rattle.serial.proofs.Trace.{Trace, none, iterate, trace-count, trace-then, trace-end}
+use Rattle.serial.proofs.Top.{top, top-zero}
+use Rattle.serial.proofs.Exchange.Core.{Receiver, Side, plain, push, moved, acted, masterSide, slaveSide, coreCycle}
+use Rattle.serial.proofs.WithinSlot.{nextSlot, sending, shifted}
 use Rattle.serial.proofs.Exchange.Settle.{Two, slotStep, rested, mk}
 use Rattle.serial.proofs.Exchange.Quiet.{quiet-ti}
-use Rattle.serial.proofs.Exchange.Events.{lowAt, ti-drive, ti-capture, ti-last, ti-levels-even, ti-levels-odd}
-use Rattle.serial.proofs.Exchange.Moves.{Queues, shown, hidden, sending, shifted, acted-by, next-in, capture-in, completed, capture-last, slave-by, Slot, slot-of, LiveSlot, slot-then}
+use Rattle.serial.proofs.Events.{lowAt, ti-drive, ti-capture, ti-last, ti-levels-even, ti-levels-odd}
+use Rattle.serial.proofs.Exchange.Moves.{Queues, shown, hidden, acted-by, next-in, capture-in, completed, capture-last, slave-by, Slot, slot-of, LiveSlot, slot-then}
 use Rattle.serial.proofs.Exchange.Motorola.{received, next-bit, last-bit}
-use Rattle.serial.proofs.Exchange.Ends.{front, holding, waits-cons, pushAll, answers, Holds, Exchange}
+use Rattle.serial.proofs.Exchange.Ends.{front, holding, pushAll, answers, Holds, Exchange}
 use Rattle.serial.specs.declared.engine.Engine.{Engine}
 use Rattle.serial.specs.declared.engine.Shift.{Shift}
 use Rattle.serial.specs.declared.engine.Step.{Step}

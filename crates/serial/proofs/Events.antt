@@ -1,15 +1,14 @@
 -- The slot tables read at the slots of a bit: the event, and the levels shown.
-use Prim.Native.Nat.{ℕ, suc, _+_, _-_, _*_, _/_, _%_, _≤_, _<_}
+use Prim.Native.Nat.{ℕ, suc, _+_, _-_, _*_, _/_, _%_, _<_}
 use mathlib.Core.Path.{_≡_, refl}
-use mathlib.Core.Bool.{Bool, true, false, not, _&&_, and-false}
+use mathlib.Core.Bool.{Bool, true, false, not, and-false}
 use native.Mathlib.Omega.{arith}
-use lib.Dec.{ltb, leb, eqb}
+use lib.Dec.{eqb}
 use borrow.Author.Tests.{eq-eqb, ne-eqb, lt-ltb, le-ltb, le-leb, lt-leb}
 use Rattle.registers.specs.Time.{slots}
 use Rattle.registers.specs.Choose.{pick}
 use Rattle.serial.specs.Slots.{motorolaEvent, tiEvent, motorolaLevels, tiLevels}
-use Rattle.serial.specs.declared.slots.Event.{Event}
-use Rattle.serial.specs.declared.slots.Event.the-variants.{Begin, Drive, First, Capture, Chain, JoinDrive, JoinCapture, Release, Pause}
+use Rattle.serial.specs.declared.slots.Event.the-variants.{Drive, Capture, Chain, JoinDrive, Release, Pause}
 use Rattle.serial.specs.declared.slots.Levels.{Levels}
 
 -- Motorola -------------------------------------------------------------------------------------------------------------
