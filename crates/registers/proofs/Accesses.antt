@@ -37,47 +37,47 @@ pick-met false n p h = absurd (omega arith)
 pub bits-done : (limit v : ℕ) → bitsBeyond limit v ≡ 0 → v < limit
 bits-done limit v h = leb-false limit v (pick-passed (leb limit v) 4 0 (omega arith) h .0)
 
-pub record Cr0Done (m : Model) (v : ℕ) : Type 0 where
+pub record Cr0Done (active : Bool) (v : ℕ) : Type 0 where
   pub small : v < 0x10000
-  pub clear : enabledOf (m .control) ≡ false
+  pub clear : active ≡ false
   pub permitted : permittedOf v ≡ true
 
-pub cr0-done : (m : Model) (v : ℕ) → writeRefusal m Cr0 v ≡ 0 → Cr0Done m v
+pub cr0-done : (m : Model) (active : Bool) (v : ℕ) → writeRefusal m active Cr0 v ≡ 0 → Cr0Done active v
 unfolding writeRefusal cr0Rule
-cr0-done m v h =
+cr0-done m active v h =
     let f = first-done _ _ h in
-    let r = pick-passed (enabledOf (m .control)) 5 _ (omega arith) (f .1) in
+    let r = pick-passed active 5 _ (omega arith) (f .1) in
     record { small = bits-done 0x10000 v (f .0); clear = r .0; permitted = pick-met (permittedOf v) 6 (omega arith) (r .1) }
 
--- MS and LBM stay while SSE is 1; SSE is set only with permitted CR0 and CPSR not 0.
-pub record Cr1Done (m : Model) (v : ℕ) : Type 0 where
+-- MS and LBM stay while active; SSE is set only with permitted CR0 and CPSR not 0.
+pub record Cr1Done (m : Model) (active : Bool) (v : ℕ) : Type 0 where
   pub small : v < 0x10
-  pub stays : enabledOf (m .control) ≡ true → (bitsDiffer (m .control .cr1) v 2 || bitsDiffer (m .control .cr1) v 0) ≡ false
+  pub stays : active ≡ true → (bitsDiffer (m .control .cr1) v 2 || bitsDiffer (m .control .cr1) v 0) ≡ false
   pub permitted : bitAt v 1 ≡ true → permittedOf (m .control .cr0) ≡ true
   pub divided : bitAt v 1 ≡ true → 1 ≤ m .control .cpsr
 
-pub cr1-done : (m : Model) (v : ℕ) → writeRefusal m Cr1 v ≡ 0 → Cr1Done m v
+pub cr1-done : (m : Model) (active : Bool) (v : ℕ) → writeRefusal m active Cr1 v ≡ 0 → Cr1Done m active v
 unfolding writeRefusal cr1Rule
-cr1-done m v h =
+cr1-done m active v h =
     let f = first-done _ _ h in
-    let r = pick-passed (enabledOf (m .control) && (bitsDiffer (m .control .cr1) v 2 || bitsDiffer (m .control .cr1) v 0)) 5 _ (omega arith) (f .1) in
+    let r = pick-passed (active && (bitsDiffer (m .control .cr1) v 2 || bitsDiffer (m .control .cr1) v 0)) 5 _ (omega arith) (f .1) in
     let s = pick-passed (bitAt v 1 && (not (permittedOf (m .control .cr0)) || eqb (m .control .cpsr) 0)) 6 0 (omega arith) (r .1) .0 in
     record {
       small = bits-done 0x10 v (f .0);
-      stays = λ e. and-off (enabledOf (m .control)) _ (r .0) e;
+      stays = λ e. and-off active _ (r .0) e;
       permitted = λ e. under-off (permittedOf (m .control .cr0)) _ (and-off (bitAt v 1) _ s e) .0;
       divided = λ e. let z = eqb-false (m .control .cpsr) 0 (under-off (permittedOf (m .control .cr0)) _ (and-off (bitAt v 1) _ s e) .1) in omega arith;
     }
 
-pub record CpsrDone (m : Model) (v : ℕ) : Type 0 where
+pub record CpsrDone (active : Bool) (v : ℕ) : Type 0 where
   pub small : v < 0x100
-  pub clear : enabledOf (m .control) ≡ false
+  pub clear : active ≡ false
 
-pub cpsr-done : (m : Model) (v : ℕ) → writeRefusal m Cpsr v ≡ 0 → CpsrDone m v
+pub cpsr-done : (m : Model) (active : Bool) (v : ℕ) → writeRefusal m active Cpsr v ≡ 0 → CpsrDone active v
 unfolding writeRefusal cpsrRule
-cpsr-done m v h =
+cpsr-done m active v h =
     let f = first-done _ _ h in
-    record { small = bits-done 0x100 v (f .0); clear = pick-passed (enabledOf (m .control)) 5 0 (omega arith) (f .1) .0 }
+    record { small = bits-done 0x100 v (f .0); clear = pick-passed active 5 0 (omega arith) (f .1) .0 }
 
 -- The control registers after an access -------------------------------------------------------------------------------
 
@@ -104,30 +104,30 @@ unfolding readModel
 control-read m o =
     pick-both (λ (x : Model). x .control ≡ m .control) (eqb (readRefusal m (registerOf o)) 0) _ _ (λ _. control-place m (registerOf o)) (λ _. refl)
 
--- a write leaves CR0 and CPSR while SSE is 1
+-- a write leaves CR0 and CPSR while active
 
 pub record SameDivider (m n : Model) : Type 0 where
   pub cr0 : n .control .cr0 ≡ m .control .cr0
   pub cpsr : n .control .cpsr ≡ m .control .cpsr
 
-divider-written : (m : Model) (p : Register) (v : ℕ) → enabledOf (m .control) ≡ true → writeRefusal m p v ≡ 0 → SameDivider m (writeDone m p v)
+divider-written : (m : Model) (active : Bool) (p : Register) (v : ℕ) → active ≡ true → writeRefusal m active p v ≡ 0 → SameDivider m (writeDone m p v)
 unfolding cr1Written icrWritten drWritten imscWritten dmacrWritten
-divider-written m Cr0 v e r = both-absurd (enabledOf (m .control)) e (cr0-done m v r .clear)
-divider-written m Cr1 v e r = record { cr0 = refl; cpsr = refl }
-divider-written m Dr v e r = record { cr0 = refl; cpsr = refl }
-divider-written m Sr v e r = record { cr0 = refl; cpsr = refl }
-divider-written m Cpsr v e r = both-absurd (enabledOf (m .control)) e (cpsr-done m v r .clear)
-divider-written m Imsc v e r = record { cr0 = refl; cpsr = refl }
-divider-written m Ris v e r = record { cr0 = refl; cpsr = refl }
-divider-written m Mis v e r = record { cr0 = refl; cpsr = refl }
-divider-written m Icr v e r = record { cr0 = refl; cpsr = refl }
-divider-written m Dmacr v e r = record { cr0 = refl; cpsr = refl }
-divider-written m (Identity i) v e r = record { cr0 = refl; cpsr = refl }
-divider-written m Reserved v e r = record { cr0 = refl; cpsr = refl }
-divider-written m Outside v e r = record { cr0 = refl; cpsr = refl }
+divider-written m active Cr0 v e r = both-absurd active e (cr0-done m active v r .clear)
+divider-written m active Cr1 v e r = record { cr0 = refl; cpsr = refl }
+divider-written m active Dr v e r = record { cr0 = refl; cpsr = refl }
+divider-written m active Sr v e r = record { cr0 = refl; cpsr = refl }
+divider-written m active Cpsr v e r = both-absurd active e (cpsr-done m active v r .clear)
+divider-written m active Imsc v e r = record { cr0 = refl; cpsr = refl }
+divider-written m active Ris v e r = record { cr0 = refl; cpsr = refl }
+divider-written m active Mis v e r = record { cr0 = refl; cpsr = refl }
+divider-written m active Icr v e r = record { cr0 = refl; cpsr = refl }
+divider-written m active Dmacr v e r = record { cr0 = refl; cpsr = refl }
+divider-written m active (Identity i) v e r = record { cr0 = refl; cpsr = refl }
+divider-written m active Reserved v e r = record { cr0 = refl; cpsr = refl }
+divider-written m active Outside v e r = record { cr0 = refl; cpsr = refl }
 
-pub divider-write : (m : Model) (o v : ℕ) → enabledOf (m .control) ≡ true → SameDivider m (writeModel m o v)
+pub divider-write : (m : Model) (active : Bool) (o v : ℕ) → active ≡ true → SameDivider m (writeModel m active o v)
 unfolding writeModel
-divider-write m o v e =
-    pick-both (λ (x : Model). SameDivider m x) (eqb (writeRefusal m (registerOf o) v) 0) _ _
-    (λ r. divider-written m (registerOf o) v e (eqb-true _ _ r)) (λ _. record { cr0 = refl; cpsr = refl })
+divider-write m active o v e =
+    pick-both (λ (x : Model). SameDivider m x) (eqb (writeRefusal m active (registerOf o) v) 0) _ _
+    (λ r. divider-written m active (registerOf o) v e (eqb-true _ _ r)) (λ _. record { cr0 = refl; cpsr = refl })

@@ -2,7 +2,7 @@
 use Prim.Native.Nat.{ℕ, zero, suc, _%_, _≤_, _<_}
 use mathlib.Core.Path.{_≡_, refl}
 use mathlib.Core.List.{List, [], _∷_}
-use mathlib.Core.Bool.{true, _&&_, _||_}
+use mathlib.Core.Bool.{Bool, true, _&&_, _||_}
 use native.Mathlib.Omega.{arith}
 use lib.ListN.{length, getD, take}
 use lib.Dec.{ltb, leb, eqb}
@@ -60,13 +60,13 @@ pub record FileFits (m : Model) : Type 0 where
   pub rx : wordsFit (m .rx) ≡ true
   pub held : length (m .rx) ≤ 8
 
-pub file-fits : (m : Model) → soundRegisters m ≡ true → registersFit m ≡ true → FileFits m
+pub file-fits : (m : Model) (active : Bool) → soundRegisters m active ≡ true → registersFit m ≡ true → FileFits m
 unfolding soundRegisters controlSound masksSound queuesSound registersFit
-file-fits m s f =
-    let regs = and-left (controlSound (m .control) && masksSound (m .masks)) _ s in
-    let control = and-left (controlSound (m .control)) _ regs in
-    let masks = and-right (controlSound (m .control)) _ regs in
-    let queues = and-left (queuesSound m) _ (and-right (controlSound (m .control) && masksSound (m .masks)) _ s) in
+file-fits m active s f =
+    let regs = and-left (controlSound (m .control) active && masksSound (m .masks)) _ s in
+    let control = and-left (controlSound (m .control) active) _ regs in
+    let masks = and-right (controlSound (m .control) active) _ regs in
+    let queues = and-left (queuesSound m) _ (and-right (controlSound (m .control) active && masksSound (m .masks)) _ s) in
     let numbers = and-left ((ltb (m .control .cr0) 0x10000 && ltb (m .control .cpsr) 0x100) && ltb (m .timeout .count .0) 0x100000000) _ f in
     let words = and-right ((ltb (m .control .cr0) 0x10000 && ltb (m .control .cpsr) 0x100) && ltb (m .timeout .count .0) 0x100000000) _ f in
     let pair = and-left (ltb (m .control .cr0) 0x10000 && ltb (m .control .cpsr) 0x100) _ numbers in

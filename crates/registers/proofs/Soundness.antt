@@ -3,6 +3,7 @@ use Prim.Native.Nat.{ℕ, _+_, _*_, _/_, _%_, _≤_, _<_}
 use mathlib.Core.Path.{_≡_, refl, sym, ap, _∙_}
 use mathlib.Core.Bool.{Bool, true, false, not, _&&_, _||_}
 use mathlib.Core.List.{List, [], _∷_, _++_}
+use mathlib.Core.Logic.{_⊎_, inl, inr}
 use native.Mathlib.Omega.{arith}
 use native.Mathlib.Nat.{mul-le-mul, mul-pos, mod-eq-of-lt}
 use lib.ListN.{length, getD, length-append}
@@ -29,19 +30,19 @@ use Rattle.registers.specs.declared.settings.Format.the-variants.{Reserv
 
 -- The tests as facts -------------------------------------------------------------------------------------------------
 
-pub record ControlFacts (c : Control) : Type 0 where
+pub record ControlFacts (c : Control) (active : Bool) : Type 0 where
   pub shape : (eqb (c .cr0) 0 || permittedOf (c .cr0)) ≡ true
   pub even : c .cpsr % 2 ≡ 0
   pub cr1 : c .cr1 ≤ 15
-  pub permitted : enabledOf c ≡ true → permittedOf (c .cr0) ≡ true
-  pub divided : enabledOf c ≡ true → 1 ≤ c .cpsr
+  pub permitted : active ≡ true → permittedOf (c .cr0) ≡ true
+  pub divided : active ≡ true → 1 ≤ c .cpsr
 
-pub control-elim : (c : Control) → controlSound c ≡ true → ControlFacts c
+pub control-elim : (c : Control) (active : Bool) → controlSound c active ≡ true → ControlFacts c active
 unfolding controlSound
-control-elim c h =
+control-elim c active h =
     let a = and-left ((eqb (c .cr0) 0 || permittedOf (c .cr0)) && eqb (c .cpsr % 2) 0) _ h in
     let b = and-right ((eqb (c .cr0) 0 || permittedOf (c .cr0)) && eqb (c .cpsr % 2) 0) _ h in
-    let u = under-elim (enabledOf c) _ (and-right (leb (c .cr1) 15) _ b) in
+    let u = under-elim active _ (and-right (leb (c .cr1) 15) _ b) in
     record {
       shape = and-left (eqb (c .cr0) 0 || permittedOf (c .cr0)) _ a;
       even = eqb-true _ _ (and-right (eqb (c .cr0) 0 || permittedOf (c .cr0)) _ a);
@@ -50,36 +51,36 @@ control-elim c h =
       divided = λ k. let z = eqb-false (c .cpsr) 0 (not-elim _ (and-right (permittedOf (c .cr0)) _ (u k))) in omega arith;
     }
 
-pub control-intro : (c : Control) → ControlFacts c → controlSound c ≡ true
+pub control-intro : (c : Control) (active : Bool) → ControlFacts c active → controlSound c active ≡ true
 unfolding controlSound
-control-intro c t =
+control-intro c active t =
     and-both _ _ (and-both _ _ (t .shape) (eq-eqb _ _ (t .even)))
     (and-both _ _ (le-leb _ _ (t .cr1))
-    (under-intro (enabledOf c) _ (λ k. and-both _ _ (t .permitted k) (not-intro _ (ne-eqb (c .cpsr) 0 (λ z. let o = t .divided k in omega arith))))))
+    (under-intro active _ (λ k. and-both _ _ (t .permitted k) (not-intro _ (ne-eqb (c .cpsr) 0 (λ z. let o = t .divided k in omega arith))))))
 
 -- The timeout's count: below 64 slots with SSE set, 0 with SSE clear.
 pub record CountFacts (c : Control) (n : ℕ) : Type 0 where
   pub running : enabledOf c ≡ true → n < 64 * divisorOf c .0
   pub stopped : enabledOf c ≡ false → n ≡ 0
 
-pub record SoundFacts (m : Model) : Type 0 where
-  pub control : ControlFacts (m .control)
+pub record SoundFacts (m : Model) (active : Bool) : Type 0 where
+  pub control : ControlFacts (m .control) active
   pub imsc : m .masks .imsc ≤ 15
   pub dmacr : m .masks .dmacr ≤ 3
   pub tx : length (m .tx) ≤ 8
   pub rx : length (m .rx) ≤ 8
   pub count : CountFacts (m .control) (m .timeout .count .0)
 
-pub sound-elim : (m : Model) → soundRegisters m ≡ true → SoundFacts m
+pub sound-elim : (m : Model) (active : Bool) → soundRegisters m active ≡ true → SoundFacts m active
 unfolding soundRegisters masksSound queuesSound countSound limitOf cyclesOf
-sound-elim m h =
-    let a = and-left (controlSound (m .control) && masksSound (m .masks)) _ h in
-    let b = and-right (controlSound (m .control) && masksSound (m .masks)) _ h in
-    let k = and-right (controlSound (m .control)) _ a in
+sound-elim m active h =
+    let a = and-left (controlSound (m .control) active && masksSound (m .masks)) _ h in
+    let b = and-right (controlSound (m .control) active && masksSound (m .masks)) _ h in
+    let k = and-right (controlSound (m .control) active) _ a in
     let q = and-left (queuesSound m) _ b in
     let n = and-right (queuesSound m) _ b in
     record {
-      control = control-elim (m .control) (and-left (controlSound (m .control)) _ a);
+      control = control-elim (m .control) active (and-left (controlSound (m .control) active) _ a);
       imsc = leb-true _ _ (and-left (leb (m .masks .imsc) 15) _ k);
       dmacr = leb-true _ _ (and-right (leb (m .masks .imsc) 15) _ k);
       tx = leb-true _ _ (and-left (leb (length (m .tx)) 8) _ q);
@@ -90,18 +91,18 @@ sound-elim m h =
       };
     }
 
-pub sound-intro : (m : Model) → SoundFacts m → soundRegisters m ≡ true
+pub sound-intro : (m : Model) (active : Bool) → SoundFacts m active → soundRegisters m active ≡ true
 unfolding soundRegisters masksSound queuesSound countSound limitOf cyclesOf
-sound-intro m t =
-    and-both _ _ (and-both _ _ (control-intro (m .control) (t .control)) (and-both _ _ (le-leb _ _ (t .imsc)) (le-leb _ _ (t .dmacr))))
+sound-intro m active t =
+    and-both _ _ (and-both _ _ (control-intro (m .control) active (t .control)) (and-both _ _ (le-leb _ _ (t .imsc)) (le-leb _ _ (t .dmacr))))
     (and-both _ _ (and-both _ _ (le-leb _ _ (t .tx)) (le-leb _ _ (t .rx)))
     (pick-both (λ (x : Bool). x ≡ true) (enabledOf (m .control)) _ _ (λ e. lt-ltb _ _ (t .count .running e)) (λ e. eq-eqb _ _ (t .count .stopped e))))
 
--- What SSE set means -------------------------------------------------------------------------------------------------
+-- What it means to be active -------------------------------------------------------------------------------------------------
 
-pub divisor-positive : (c : Control) → ControlFacts c → enabledOf c ≡ true → 1 ≤ divisorOf c .0
+pub divisor-positive : (c : Control) (active : Bool) → ControlFacts c active → active ≡ true → 1 ≤ divisorOf c .0
 unfolding divisorOf
-divisor-positive c t e = mul-pos (let o = t .divided e in let v = t .even in omega arith) (omega arith)
+divisor-positive c active t e = mul-pos (let o = t .divided e in let v = t .even in omega arith) (omega arith)
 
 pub divisor-most : (c : Control) → c .cpsr < 256 → divisorOf c .0 ≤ 32512
 unfolding divisorOf
@@ -123,25 +124,29 @@ format-known cr0 h =
     (λ b. pick-both (λ (f : Format). f ≡ ReservedFormat → ⊥) (eqb (cr0 / 16 % 4) 2) _ _ (λ _ e. let z : _≡_ {A = ℕ} 0 1 = cc in omega arith)
     (λ c _. let l = ltb-true (cr0 / 16 % 4) 3 (and-left (ltb (cr0 / 16 % 4) 3) _ h) in omega (arith, eqb-false (cr0 / 16 % 4) 0 a, eqb-false (cr0 / 16 % 4) 1 b, eqb-false (cr0 / 16 % 4) 2 c))))
 
--- all of it, of a sound control with SSE set
+-- all of it, of a sound control
 pub record EnabledFacts (c : Control) : Type 0 where
   pub divisor : 1 ≤ divisorOf c .0
   pub least : 4 ≤ bitsOf (c .cr0)
   pub most : bitsOf (c .cr0) ≤ 16
   pub format : formatOf (c .cr0) ≡ ReservedFormat → ⊥
 
-pub enabled-elim : (c : Control) → controlSound c ≡ true → enabledOf c ≡ true → EnabledFacts c
-enabled-elim c h e =
-    let t = control-elim c h in
+pub enabled-elim : (c : Control) (active : Bool) → controlSound c active ≡ true → active ≡ true → EnabledFacts c
+enabled-elim c active h e =
+    let t = control-elim c active h in
     record {
-      divisor = divisor-positive c t e;
+      divisor = divisor-positive c active t e;
       least = bits-least (c .cr0) (t .permitted e);
       most = bits-most (c .cr0);
       format = format-known (c .cr0) (t .permitted e);
     }
 
-count-zero : (c : Control) → ControlFacts c → CountFacts c 0
-count-zero c t = record { running = λ e. let p = divisor-positive c t e in omega arith; stopped = λ _. refl }
+-- with SSE set the engine is active
+abbrev pub Enables : Control → Bool → Type 0
+Enables c active = enabledOf c ≡ true → active ≡ true
+
+count-zero : (c : Control) (active : Bool) → Enables c active → ControlFacts c active → CountFacts c 0
+count-zero c active on t = record { running = λ e. let p = divisor-positive c active t (on e) in omega arith; stopped = λ _. refl }
 
 -- Queues -------------------------------------------------------------------------------------------------------------
 
@@ -156,195 +161,230 @@ added-most xs w h =
 
 -- Reset and the engine's steps ---------------------------------------------------------------------------------------
 
-pub sound-reset : soundRegisters resetRegisters ≡ true
+pub sound-reset : soundRegisters resetRegisters false ≡ true
 unfolding soundRegisters controlSound masksSound queuesSound countSound enabledOf permittedOf
 sound-reset = refl
 
-pub sound-take : (m : Model) → soundRegisters m ≡ true → soundRegisters (takeWord m) ≡ true
+pub sound-take : (m : Model) (active : Bool) → soundRegisters m active ≡ true → soundRegisters (takeWord m) active ≡ true
 unfolding takeWord
-sound-take m h =
-    let t = sound-elim m h in
-    sound-intro _ (record { control = t .control; imsc = t .imsc; dmacr = t .dmacr; tx = rest-most (m .tx) (t .tx); rx = t .rx; count = t .count })
+sound-take m active h =
+    let t = sound-elim m active h in
+    sound-intro _ active (record { control = t .control; imsc = t .imsc; dmacr = t .dmacr; tx = rest-most (m .tx) (t .tx); rx = t .rx; count = t .count })
 
-pub sound-receive : (m : Model) (w : ℕ) → soundRegisters m ≡ true → soundRegisters (receiveWord m w) ≡ true
+pub sound-receive : (m : Model) (active : Bool) (w : ℕ) → soundRegisters m active ≡ true → soundRegisters (receiveWord m w) active ≡ true
 unfolding receiveWord
-sound-receive m w h =
-    let t = sound-elim m h in
-    sound-intro _ (record { control = t .control; imsc = t .imsc; dmacr = t .dmacr; tx = t .tx; rx = added-most (m .rx) w (t .rx); count = t .count })
+sound-receive m active w h =
+    let t = sound-elim m active h in
+    sound-intro _ active (record { control = t .control; imsc = t .imsc; dmacr = t .dmacr; tx = t .tx; rx = added-most (m .rx) w (t .rx); count = t .count })
 
 -- the count at the end of a cycle
-count-end : (m : Model) (frame : Bool) → SoundFacts m → CountFacts (m .control) (timeoutOf m frame .count .0)
+count-end : (m : Model) (active frame : Bool) → Enables (m .control) active → SoundFacts m active → CountFacts (m .control) (timeoutOf m frame .count .0)
 unfolding timeoutOf limitOf cyclesOf idlesOf
-count-end m frame t =
+count-end m active frame on t =
     pick-both (λ (x : Timeout). CountFacts (m .control) (x .count .0)) (idlesOf m frame) _ _
     (λ i. pick-both (λ (x : Timeout). CountFacts (m .control) (x .count .0)) (leb (64 * divisorOf (m .control) .0) (m .timeout .count .0 + 1)) _ _
-    (λ _. count-zero (m .control) (t .control))
+    (λ _. count-zero (m .control) active on (t .control))
     (λ k. record {
       running = λ _. let l = leb-false (64 * divisorOf (m .control) .0) (m .timeout .count .0 + 1) k in omega arith;
       stopped = λ e. both-absurd (enabledOf (m .control)) (and-right (not (eqb (length (m .rx)) 0)) _ (and-left (not (eqb (length (m .rx)) 0) && enabledOf (m .control)) _ i)) e;
     }))
-    (λ _. count-zero (m .control) (t .control))
+    (λ _. count-zero (m .control) active on (t .control))
 
-pub sound-end : (m : Model) (frame : Bool) → soundRegisters m ≡ true → soundRegisters (endCycle m frame) ≡ true
+pub sound-end : (m : Model) (active frame : Bool) → Enables (m .control) active → soundRegisters m active ≡ true → soundRegisters (endCycle m frame) active ≡ true
 unfolding endCycle
-sound-end m frame h =
-    let t = sound-elim m h in
-    sound-intro _ (record { control = t .control; imsc = t .imsc; dmacr = t .dmacr; tx = t .tx; rx = t .rx; count = count-end m frame t })
+sound-end m active frame on h =
+    let t = sound-elim m active h in
+    sound-intro _ active (record { control = t .control; imsc = t .imsc; dmacr = t .dmacr; tx = t .tx; rx = t .rx; count = count-end m active frame on t })
 
 -- Reading ------------------------------------------------------------------------------------------------------------
 
-sound-taken : (m : Model) → soundRegisters m ≡ true → soundRegisters (dataTaken m) ≡ true
+sound-taken : (m : Model) (active : Bool) → Enables (m .control) active → soundRegisters m active ≡ true → soundRegisters (dataTaken m) active ≡ true
 unfolding dataTaken
-sound-taken m h =
-    let t = sound-elim m h in
-    sound-intro _ (record { control = t .control; imsc = t .imsc; dmacr = t .dmacr; tx = t .tx; rx = rest-most (m .rx) (t .rx); count = count-zero (m .control) (t .control) })
+sound-taken m active on h =
+    let t = sound-elim m active h in
+    sound-intro _ active (record { control = t .control; imsc = t .imsc; dmacr = t .dmacr; tx = t .tx; rx = rest-most (m .rx) (t .rx); count = count-zero (m .control) active on (t .control) })
 
-sound-place : (m : Model) (p : Register) → soundRegisters m ≡ true → soundRegisters (readDone m p) ≡ true
-sound-place m Cr0 h = h
-sound-place m Cr1 h = h
-sound-place m Dr h = sound-taken m h
-sound-place m Sr h = h
-sound-place m Cpsr h = h
-sound-place m Imsc h = h
-sound-place m Ris h = h
-sound-place m Mis h = h
-sound-place m Icr h = h
-sound-place m Dmacr h = h
-sound-place m (Identity i) h = h
-sound-place m Reserved h = h
-sound-place m Outside h = h
+sound-place : (m : Model) (active : Bool) (p : Register) → Enables (m .control) active → soundRegisters m active ≡ true → soundRegisters (readDone m p) active ≡ true
+sound-place m active Cr0 on h = h
+sound-place m active Cr1 on h = h
+sound-place m active Dr on h = sound-taken m active on h
+sound-place m active Sr on h = h
+sound-place m active Cpsr on h = h
+sound-place m active Imsc on h = h
+sound-place m active Ris on h = h
+sound-place m active Mis on h = h
+sound-place m active Icr on h = h
+sound-place m active Dmacr on h = h
+sound-place m active (Identity i) on h = h
+sound-place m active Reserved on h = h
+sound-place m active Outside on h = h
 
-pub sound-read : (m : Model) (o : ℕ) → soundRegisters m ≡ true → soundRegisters (readModel m o) ≡ true
+pub sound-read : (m : Model) (active : Bool) (o : ℕ) → Enables (m .control) active → soundRegisters m active ≡ true → soundRegisters (readModel m o) active ≡ true
 unfolding readModel
-sound-read m o h = pick-both (λ (x : Model). soundRegisters x ≡ true) (eqb (readRefusal m (registerOf o)) 0) _ _ (λ _. sound-place m (registerOf o) h) (λ _. h)
+sound-read m active o on h = pick-both (λ (x : Model). soundRegisters x active ≡ true) (eqb (readRefusal m (registerOf o)) 0) _ _ (λ _. sound-place m active (registerOf o) on h) (λ _. h)
 
 -- Writing ------------------------------------------------------------------------------------------------------------
 
-sound-cr0 : (m : Model) (v : ℕ) → soundRegisters m ≡ true → writeRefusal m Cr0 v ≡ 0 → soundRegisters (cr0Written m v) ≡ true
-unfolding cr0Written enabledOf
-sound-cr0 m v h r =
-    let t = sound-elim m h in
-    let d = cr0-done m v r in
-    let p : permittedOf (v % 0x10000) ≡ true = rw (mod-eq-of-lt (d .small)) (d .permitted) in
-    sound-intro _ (record {
-      control = record {
-        shape = or-right (eqb (v % 0x10000) 0) _ p;
-        even = t .control .even;
-        cr1 = t .control .cr1;
-        permitted = λ _. p;
-        divided = λ e. both-absurd (enabledOf (m .control)) e (d .clear);
-      };
+either : {A B C : Type 0} → (A → C) → (B → C) → A ⊎ B → C
+either f g (inl x) = f x
+either f g (inr x) = g x
+
+-- After a write the engine is active only if it was before or SSE is now set.
+abbrev pub Becomes : Bool → Bool → Control → Type 0
+Becomes active active′ c = active′ ≡ true → (active ≡ true) ⊎ (enabledOf c ≡ true)
+
+-- where CR1 stays, only if it was before
+still-active : (c c′ : Control) (active active′ : Bool) → enabledOf c′ ≡ enabledOf c → Enables c active → Becomes active active′ c′ → active′ ≡ true → active ≡ true
+still-active c c′ active active′ same on becomes e = either (λ x. x) (λ x. on (sym same ∙ x)) (becomes e)
+
+sound-active : (m : Model) (active active′ : Bool) → (active′ ≡ true → active ≡ true) → soundRegisters m active ≡ true → soundRegisters m active′ ≡ true
+sound-active m active active′ k h =
+    let t = sound-elim m active h in
+    let c = t .control in
+    sound-intro m active′ (record {
+      control = record { shape = c .shape; even = c .even; cr1 = c .cr1; permitted = λ e. c .permitted (k e); divided = λ e. c .divided (k e) };
       imsc = t .imsc;
       dmacr = t .dmacr;
       tx = t .tx;
       rx = t .rx;
-      count = record { running = λ e. both-absurd (enabledOf (m .control)) e (d .clear); stopped = λ e. t .count .stopped e };
+      count = t .count;
     })
 
 -- the count that a written CR1 keeps
-count-enabling : (c c′ : Control) (n : ℕ) → CountFacts c n → ControlFacts c′ → divisorOf c′ ≡ divisorOf c → enabledOf c′ ≡ true → n < 64 * divisorOf c′ .0
-count-enabling c c′ n t u e k = go (enabledOf c) refl
+count-enabling : (c c′ : Control) (n : ℕ) → CountFacts c n → 1 ≤ divisorOf c′ .0 → divisorOf c′ ≡ divisorOf c → n < 64 * divisorOf c′ .0
+count-enabling c c′ n t p e = go (enabledOf c) refl
   where
     go : (x : Bool) → enabledOf c ≡ x → n < 64 * divisorOf c′ .0
     go true y = rw e (t .running y)
-    go false y = let z = t .stopped y in let p = divisor-positive c′ u k in omega arith
+    go false y = let z = t .stopped y in omega arith
 
-sound-cr1 : (m : Model) (v : ℕ) → soundRegisters m ≡ true → writeRefusal m Cr1 v ≡ 0 → soundRegisters (cr1Written m v) ≡ true
-unfolding cr1Written enabledOf divisorOf
-sound-cr1 m v h r =
-    let t = sound-elim m h in
-    let d = cr1-done m v r in
-    let c : Control = record { cr0 = m .control .cr0; cr1 = v % 0x10; cpsr = m .control .cpsr } in
-    let same : bitAt (v % 0x10) 1 ≡ bitAt v 1 = ap (λ (x : ℕ). bitAt x 1) (mod-eq-of-lt (d .small)) in
-    let u : ControlFacts c = record {
-      shape = t .control .shape;
-      even = t .control .even;
-      cr1 = let s = d .small in omega arith;
-      permitted = λ e. d .permitted (sym same ∙ e);
-      divided = λ e. d .divided (sym same ∙ e);
-    } in
-    sound-intro _ (record {
-      control = u;
-      imsc = t .imsc;
-      dmacr = t .dmacr;
-      tx = t .tx;
-      rx = t .rx;
-      count = pick-both (λ (x : Cycles). CountFacts c (x .0)) (bitAt v 1) _ _
-          (λ y. record { running = λ e. count-enabling (m .control) c (m .timeout .count .0) (t .count) u refl e; stopped = λ e. both-absurd (bitAt v 1) y (sym same ∙ e) })
-          (λ _. count-zero c u);
-    })
+module _ (m : Model) (active active′ : Bool) (v : ℕ) (on : Enables (m .control) active) (h : soundRegisters m active ≡ true) where
+  sound-cr0 : writeRefusal m active Cr0 v ≡ 0 → Becomes active active′ (cr0Written m v .control) → soundRegisters (cr0Written m v) active′ ≡ true
+  unfolding cr0Written enabledOf
+  sound-cr0 r becomes =
+      let t = sound-elim m active h in
+      let d = cr0-done m active v r in
+      let c : Control = record { cr0 = v % 0x10000; cr1 = m .control .cr1; cpsr = m .control .cpsr } in
+      let p : permittedOf (v % 0x10000) ≡ true = rw (mod-eq-of-lt (d .small)) (d .permitted) in
+      sound-intro _ active′ (record {
+        control = record {
+          shape = or-right (eqb (v % 0x10000) 0) _ p;
+          even = t .control .even;
+          cr1 = t .control .cr1;
+          permitted = λ _. p;
+          divided = λ e. both-absurd active (still-active (m .control) c active active′ refl on becomes e) (d .clear);
+        };
+        imsc = t .imsc;
+        dmacr = t .dmacr;
+        tx = t .tx;
+        rx = t .rx;
+        count = record { running = λ e. both-absurd active (on e) (d .clear); stopped = λ e. t .count .stopped e };
+      })
 
-sound-cpsr : (m : Model) (v : ℕ) → soundRegisters m ≡ true → writeRefusal m Cpsr v ≡ 0 → soundRegisters (cpsrWritten m v) ≡ true
-unfolding cpsrWritten enabledOf
-sound-cpsr m v h r =
-    let t = sound-elim m h in
-    let d = cpsr-done m v r in
-    sound-intro _ (record {
-      control = record {
+  sound-cr1 : writeRefusal m active Cr1 v ≡ 0 → Becomes active active′ (cr1Written m v .control) → Enables (cr1Written m v .control) active′ → soundRegisters (cr1Written m v) active′ ≡ true
+  unfolding cr1Written enabledOf divisorOf
+  sound-cr1 r becomes on′ =
+      let t = sound-elim m active h in
+      let d = cr1-done m active v r in
+      let c : Control = record { cr0 = m .control .cr0; cr1 = v % 0x10; cpsr = m .control .cpsr } in
+      let same : bitAt (v % 0x10) 1 ≡ bitAt v 1 = ap (λ (x : ℕ). bitAt x 1) (mod-eq-of-lt (d .small)) in
+      let u : ControlFacts c active′ = record {
         shape = t .control .shape;
-        even = omega arith;
-        cr1 = t .control .cr1;
-        permitted = t .control .permitted;
-        divided = λ e. both-absurd (enabledOf (m .control)) e (d .clear);
-      };
-      imsc = t .imsc;
-      dmacr = t .dmacr;
-      tx = t .tx;
-      rx = t .rx;
-      count = record { running = λ e. both-absurd (enabledOf (m .control)) e (d .clear); stopped = λ e. t .count .stopped e };
-    })
+        even = t .control .even;
+        cr1 = let s = d .small in omega arith;
+        permitted = λ e. either (t .control .permitted) (λ x. d .permitted (sym same ∙ x)) (becomes e);
+        divided = λ e. either (t .control .divided) (λ x. d .divided (sym same ∙ x)) (becomes e);
+      } in
+      sound-intro _ active′ (record {
+        control = u;
+        imsc = t .imsc;
+        dmacr = t .dmacr;
+        tx = t .tx;
+        rx = t .rx;
+        count = pick-both (λ (x : Cycles). CountFacts c (x .0)) (bitAt v 1) _ _
+            (λ y. record { running = λ e. count-enabling (m .control) c (m .timeout .count .0) (t .count) (divisor-positive c active′ u (on′ e)) refl; stopped = λ e. both-absurd (bitAt v 1) y (sym same ∙ e) })
+            (λ _. count-zero c active′ on′ u);
+      })
 
-sound-icr : (m : Model) (v : ℕ) → soundRegisters m ≡ true → soundRegisters (icrWritten m v) ≡ true
-unfolding icrWritten
-sound-icr m v h =
-    let t = sound-elim m h in
-    sound-intro _ (record {
-      control = t .control;
-      imsc = t .imsc;
-      dmacr = t .dmacr;
-      tx = t .tx;
-      rx = t .rx;
-      count = pick-both (λ (x : Cycles). CountFacts (m .control) (x .0)) (not (bitAt v 1)) _ _ (λ _. t .count) (λ _. count-zero (m .control) (t .control));
-    })
+  sound-cpsr : writeRefusal m active Cpsr v ≡ 0 → Becomes active active′ (cpsrWritten m v .control) → soundRegisters (cpsrWritten m v) active′ ≡ true
+  unfolding cpsrWritten enabledOf
+  sound-cpsr r becomes =
+      let t = sound-elim m active h in
+      let d = cpsr-done m active v r in
+      let c : Control = record { cr0 = m .control .cr0; cr1 = m .control .cr1; cpsr = v % 0x100 / 2 * 2 } in
+      let none : active′ ≡ true → ⊥ = λ e. both-absurd active (still-active (m .control) c active active′ refl on becomes e) (d .clear) in
+      sound-intro _ active′ (record {
+        control = record {
+          shape = t .control .shape;
+          even = omega arith;
+          cr1 = t .control .cr1;
+          permitted = λ e. absurd (none e);
+          divided = λ e. absurd (none e);
+        };
+        imsc = t .imsc;
+        dmacr = t .dmacr;
+        tx = t .tx;
+        rx = t .rx;
+        count = record { running = λ e. both-absurd active (on e) (d .clear); stopped = λ e. t .count .stopped e };
+      })
 
-sound-dr : (m : Model) (v : ℕ) → soundRegisters m ≡ true → soundRegisters (drWritten m v) ≡ true
-unfolding drWritten
-sound-dr m v h =
-    let t = sound-elim m h in
-    sound-intro _ (record { control = t .control; imsc = t .imsc; dmacr = t .dmacr; tx = added-most (m .tx) (v % 0x10000) (t .tx); rx = t .rx; count = t .count })
+  sound-icr : soundRegisters (icrWritten m v) active ≡ true
+  unfolding icrWritten
+  sound-icr =
+      let t = sound-elim m active h in
+      sound-intro _ active (record {
+        control = t .control;
+        imsc = t .imsc;
+        dmacr = t .dmacr;
+        tx = t .tx;
+        rx = t .rx;
+        count = pick-both (λ (x : Cycles). CountFacts (m .control) (x .0)) (not (bitAt v 1)) _ _ (λ _. t .count) (λ _. count-zero (m .control) active on (t .control));
+      })
 
-sound-imsc : (m : Model) (v : ℕ) → soundRegisters m ≡ true → soundRegisters (imscWritten m v) ≡ true
-unfolding imscWritten
-sound-imsc m v h =
-    let t = sound-elim m h in
-    sound-intro _ (record { control = t .control; imsc = omega arith; dmacr = t .dmacr; tx = t .tx; rx = t .rx; count = t .count })
+  sound-dr : soundRegisters (drWritten m v) active ≡ true
+  unfolding drWritten
+  sound-dr =
+      let t = sound-elim m active h in
+      sound-intro _ active (record { control = t .control; imsc = t .imsc; dmacr = t .dmacr; tx = added-most (m .tx) (v % 0x10000) (t .tx); rx = t .rx; count = t .count })
 
-sound-dmacr : (m : Model) (v : ℕ) → soundRegisters m ≡ true → soundRegisters (dmacrWritten m v) ≡ true
-unfolding dmacrWritten
-sound-dmacr m v h =
-    let t = sound-elim m h in
-    sound-intro _ (record { control = t .control; imsc = t .imsc; dmacr = omega arith; tx = t .tx; rx = t .rx; count = t .count })
+  sound-imsc : soundRegisters (imscWritten m v) active ≡ true
+  unfolding imscWritten
+  sound-imsc =
+      let t = sound-elim m active h in
+      sound-intro _ active (record { control = t .control; imsc = omega arith; dmacr = t .dmacr; tx = t .tx; rx = t .rx; count = t .count })
 
-sound-written : (m : Model) (p : Register) (v : ℕ) → soundRegisters m ≡ true → writeRefusal m p v ≡ 0 → soundRegisters (writeDone m p v) ≡ true
-sound-written m Cr0 v h r = sound-cr0 m v h r
-sound-written m Cr1 v h r = sound-cr1 m v h r
-sound-written m Dr v h r = sound-dr m v h
-sound-written m Sr v h r = h
-sound-written m Cpsr v h r = sound-cpsr m v h r
-sound-written m Imsc v h r = sound-imsc m v h
-sound-written m Ris v h r = h
-sound-written m Mis v h r = h
-sound-written m Icr v h r = sound-icr m v h
-sound-written m Dmacr v h r = sound-dmacr m v h
-sound-written m (Identity i) v h r = h
-sound-written m Reserved v h r = h
-sound-written m Outside v h r = h
+  sound-dmacr : soundRegisters (dmacrWritten m v) active ≡ true
+  unfolding dmacrWritten
+  sound-dmacr =
+      let t = sound-elim m active h in
+      sound-intro _ active (record { control = t .control; imsc = t .imsc; dmacr = omega arith; tx = t .tx; rx = t .rx; count = t .count })
 
-pub sound-write : (m : Model) (o v : ℕ) → soundRegisters m ≡ true → soundRegisters (writeModel m o v) ≡ true
+  -- a register that leaves CR1
+  sound-kept : (x : Model) → soundRegisters x active ≡ true → x .control ≡ m .control → Becomes active active′ (x .control) → soundRegisters x active′ ≡ true
+  sound-kept x k e becomes = sound-active x active active′ (still-active (m .control) (x .control) active active′ (ap enabledOf e) on becomes) k
+
+  sound-written : (p : Register) → writeRefusal m active p v ≡ 0 → Becomes active active′ (writeDone m p v .control) → Enables (writeDone m p v .control) active′ → soundRegisters (writeDone m p v) active′ ≡ true
+  unfolding icrWritten drWritten imscWritten dmacrWritten
+  sound-written Cr0 r b on′ = sound-cr0 r b
+  sound-written Cr1 r b on′ = sound-cr1 r b on′
+  sound-written Dr r b on′ = sound-kept _ sound-dr refl b
+  sound-written Sr r b on′ = sound-kept m h refl b
+  sound-written Cpsr r b on′ = sound-cpsr r b
+  sound-written Imsc r b on′ = sound-kept _ sound-imsc refl b
+  sound-written Ris r b on′ = sound-kept m h refl b
+  sound-written Mis r b on′ = sound-kept m h refl b
+  sound-written Icr r b on′ = sound-kept _ sound-icr refl b
+  sound-written Dmacr r b on′ = sound-kept _ sound-dmacr refl b
+  sound-written (Identity i) r b on′ = sound-kept m h refl b
+  sound-written Reserved r b on′ = sound-kept m h refl b
+  sound-written Outside r b on′ = sound-kept m h refl b
+
+pub sound-write : (m : Model) (active active′ : Bool) (o v : ℕ) → Enables (m .control) active → soundRegisters m active ≡ true
+    → Becomes active active′ (writeModel m active o v .control) → Enables (writeModel m active o v .control) active′ → soundRegisters (writeModel m active o v) active′ ≡ true
 unfolding writeModel
-sound-write m o v h =
-    pick-both (λ (x : Model). soundRegisters x ≡ true) (eqb (writeRefusal m (registerOf o) v) 0) _ _
-    (λ e. sound-written m (registerOf o) v h (eqb-true _ _ e)) (λ _. h)
+sound-write m active active′ o v on h =
+    pick-both (λ (x : Model). Becomes active active′ (x .control) → Enables (x .control) active′ → soundRegisters x active′ ≡ true) (eqb (writeRefusal m active (registerOf o) v) 0) _ _
+    (λ e. sound-written m active active′ v on h (registerOf o) (eqb-true _ _ e)) (λ _ b _. sound-kept m active active′ v on h m h refl b)
 
 -- What the bytes of a record can hold --------------------------------------------------------------------------------
 
@@ -486,7 +526,7 @@ fits-written m (Identity i) v h = h
 fits-written m Reserved v h = h
 fits-written m Outside v h = h
 
-pub fits-write : (m : Model) (o v : ℕ) → registersFit m ≡ true → registersFit (writeModel m o v) ≡ true
+pub fits-write : (m : Model) (active : Bool) (o v : ℕ) → registersFit m ≡ true → registersFit (writeModel m active o v) ≡ true
 unfolding writeModel
-fits-write m o v h =
-    pick-both (λ (x : Model). registersFit x ≡ true) (eqb (writeRefusal m (registerOf o) v) 0) _ _ (λ _. fits-written m (registerOf o) v h) (λ _. h)
+fits-write m active o v h =
+    pick-both (λ (x : Model). registersFit x ≡ true) (eqb (writeRefusal m active (registerOf o) v) 0) _ _ (λ _. fits-written m (registerOf o) v h) (λ _. h)

@@ -113,43 +113,45 @@ writeAccess (Identity i) v = wrongAccess
 writeAccess Reserved v = reservedOffset
 writeAccess Outside v = badOffset
 
--- CR0: 5 while SSE is 1; 6 if it is not permitted.
-unfoldable pub cr0Rule : Model → ℕ → ℕ
-cr0Rule m v = pick (enabledOf (m .control)) whileEnabled (pick (permittedOf v) done notPermitted)
+-- `active` says that the engine is: refusal 5 goes by it, and the layer above knows it.
 
--- CR1: 5 with another MS or LBM while SSE is 1; 6 if it sets SSE while CR0 is not permitted or CPSR is 0.
-unfoldable pub cr1Rule : Model → ℕ → ℕ
-cr1Rule m v =
-    pick (enabledOf (m .control) && (bitsDiffer (m .control .cr1) v 2 || bitsDiffer (m .control .cr1) v 0)) whileEnabled
+-- CR0: 5 while active; 6 if it is not permitted.
+unfoldable pub cr0Rule : Bool → ℕ → ℕ
+cr0Rule active v = pick active whileEnabled (pick (permittedOf v) done notPermitted)
+
+-- CR1: 5 with another MS or LBM while active; 6 if it sets SSE while CR0 is not permitted or CPSR is 0.
+unfoldable pub cr1Rule : Model → Bool → ℕ → ℕ
+cr1Rule m active v =
+    pick (active && (bitsDiffer (m .control .cr1) v 2 || bitsDiffer (m .control .cr1) v 0)) whileEnabled
     (pick (bitAt v 1 && (not (permittedOf (m .control .cr0)) || eqb (m .control .cpsr) 0)) notPermitted
     done)
 
--- CPSR: 5 while SSE is 1.
-unfoldable pub cpsrRule : Model → ℕ
-cpsrRule m = pick (enabledOf (m .control)) whileEnabled done
+-- CPSR: 5 while active.
+unfoldable pub cpsrRule : Bool → ℕ
+cpsrRule active = pick active whileEnabled done
 
 -- DR: 7 with eight words waiting.
 unfoldable pub drRule : Model → ℕ
 drRule m = pick (leb 8 (length (m .tx))) queueFull done
 
 -- 5 to 7, by the state; the other registers have no such rule.
-abbrev pub writeRule : Model → Register → ℕ → ℕ
-writeRule m Cr0 v = cr0Rule m v
-writeRule m Cr1 v = cr1Rule m v
-writeRule m Dr v = drRule m
-writeRule m Sr v = done
-writeRule m Cpsr v = cpsrRule m
-writeRule m Imsc v = done
-writeRule m Ris v = done
-writeRule m Mis v = done
-writeRule m Icr v = done
-writeRule m Dmacr v = done
-writeRule m (Identity i) v = done
-writeRule m Reserved v = done
-writeRule m Outside v = done
+abbrev pub writeRule : Model → Bool → Register → ℕ → ℕ
+writeRule m active Cr0 v = cr0Rule active v
+writeRule m active Cr1 v = cr1Rule m active v
+writeRule m active Dr v = drRule m
+writeRule m active Sr v = done
+writeRule m active Cpsr v = cpsrRule active
+writeRule m active Imsc v = done
+writeRule m active Ris v = done
+writeRule m active Mis v = done
+writeRule m active Icr v = done
+writeRule m active Dmacr v = done
+writeRule m active (Identity i) v = done
+writeRule m active Reserved v = done
+writeRule m active Outside v = done
 
-unfoldable pub writeRefusal : Model → Register → ℕ → ℕ
-writeRefusal m p v = firstOf (writeAccess p v) (writeRule m p v)
+unfoldable pub writeRefusal : Model → Bool → Register → ℕ → ℕ
+writeRefusal m active p v = firstOf (writeAccess p v) (writeRule m active p v)
 
 -- The timeout's count, kept or zero.
 abbrev pub keptCount : Bool → Cycles → Cycles
@@ -202,9 +204,9 @@ writeDone m Reserved v = m
 writeDone m Outside v = m
 
 -- A refused write leaves everything as it was.
-unfoldable pub writeModel : Model → ℕ → ℕ → Model
-writeModel m o v = pick (eqb (writeRefusal m (registerOf o) v) done) (writeDone m (registerOf o) v) m
+unfoldable pub writeModel : Model → Bool → ℕ → ℕ → Model
+writeModel m active o v = pick (eqb (writeRefusal m active (registerOf o) v) done) (writeDone m (registerOf o) v) m
 
-pub record Write (m : Model) (o v : ℕ) (r : Written) : Type 0 where
-  pub refusal : r .refusal ≡ writeRefusal m (registerOf o) v
-  pub model : modelOf (r .registers) ≡ writeModel m o v
+pub record Write (m : Model) (active : Bool) (o v : ℕ) (r : Written) : Type 0 where
+  pub refusal : r .refusal ≡ writeRefusal m active (registerOf o) v
+  pub model : modelOf (r .registers) ≡ writeModel m active o v

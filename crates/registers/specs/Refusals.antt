@@ -24,7 +24,7 @@ wrongAccess = 3
 abbrev pub extraBits : ℕ
 extraBits = 4
 
--- not while SSE is 1
+-- not while the engine is active
 abbrev pub whileEnabled : ℕ
 whileEnabled = 5
 

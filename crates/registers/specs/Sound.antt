@@ -11,11 +11,11 @@ use Rattle.registers.specs.Transfer.{limitOf}
 use Rattle.registers.specs.declared.Control.{Control}
 use Rattle.registers.specs.declared.Masks.{Masks}
 
--- CR0 is 0 or permitted, CPSR even, CR1 at most 15; SSE set only with permitted CR0 and CPSR not 0.
-unfoldable pub controlSound : Control → Bool
-controlSound c =
+-- CR0 is 0 or permitted, CPSR even, CR1 at most 15; active only with permitted CR0 and CPSR not 0.
+unfoldable pub controlSound : Control → Bool → Bool
+controlSound c active =
     ((eqb (c .cr0) 0 || permittedOf (c .cr0)) && eqb (c .cpsr % 2) 0)
-    && (leb (c .cr1) 15 && (not (enabledOf c) || (permittedOf (c .cr0) && not (eqb (c .cpsr) 0))))
+    && (leb (c .cr1) 15 && (not active || (permittedOf (c .cr0) && not (eqb (c .cpsr) 0))))
 
 -- IMSC at most 15, DMACR at most 3.
 unfoldable pub masksSound : Masks → Bool
@@ -29,8 +29,8 @@ queuesSound m = leb (length (m .tx)) 8 && leb (length (m .rx)) 8
 unfoldable pub countSound : Model → Bool
 countSound m = pick (enabledOf (m .control)) (ltb (m .timeout .count .0) (limitOf m .0)) (eqb (m .timeout .count .0) 0)
 
-unfoldable pub soundRegisters : Model → Bool
-soundRegisters m = (controlSound (m .control) && masksSound (m .masks)) && (queuesSound m && countSound m)
+unfoldable pub soundRegisters : Model → Bool → Bool
+soundRegisters m active = (controlSound (m .control) active && masksSound (m .masks)) && (queuesSound m && countSound m)
 
 -- What the bytes of a record can hold: true of every register file that the code makes.
 

@@ -176,23 +176,24 @@ fn write_access(register: Register, value: u32) -> u8
     }
 }
 
-fn cr0_rule(r: Registers, value: u32) -> u8
-    ensures { λ n. ⌜ n ≡ cr0Rule (modelOf r) value ⌝ }
+fn cr0_rule(active: bool, value: u32) -> u8
+    ensures { λ n. ⌜ n ≡ cr0Rule active value ⌝ }
 {
-    let on = crate::settings::enabled(r);
-    if on {
-        return WHILE_ENABLED;
-    }
     let good = crate::settings::permitted_of(value);
-    if good { DONE } else { NOT_PERMITTED }
+    if active {
+        WHILE_ENABLED
+    } else if good {
+        DONE
+    } else {
+        NOT_PERMITTED
+    }
 }
 
-fn cr1_rule(r: Registers, value: u32) -> u8
-    ensures { λ n. ⌜ n ≡ cr1Rule (modelOf r) value ⌝ }
+fn cr1_rule(r: Registers, active: bool, value: u32) -> u8
+    ensures { λ n. ⌜ n ≡ cr1Rule (modelOf r) active value ⌝ }
 {
-    let on = crate::settings::enabled(r);
     let old = r.control.cr1 as u32;
-    let held = on & ((old / 4 % 2 != value / 4 % 2) | (old / 1 % 2 != value / 1 % 2));
+    let held = active & ((old / 4 % 2 != value / 4 % 2) | (old / 1 % 2 != value / 1 % 2));
     let good = crate::settings::permitted_of(r.control.cr0 as u32);
     let unready = (value / 2 % 2 == 1) & (!good | (r.control.cpsr == 0));
     if held {
@@ -201,11 +202,10 @@ fn cr1_rule(r: Registers, value: u32) -> u8
     if unready { NOT_PERMITTED } else { DONE }
 }
 
-fn cpsr_rule(r: Registers) -> u8
-    ensures { λ n. ⌜ n ≡ cpsrRule (modelOf r) ⌝ }
+fn cpsr_rule(active: bool) -> u8
+    ensures { λ n. ⌜ n ≡ cpsrRule active ⌝ }
 {
-    let on = crate::settings::enabled(r);
-    if on { WHILE_ENABLED } else { DONE }
+    if active { WHILE_ENABLED } else { DONE }
 }
 
 fn dr_rule(r: Registers) -> u8
@@ -216,15 +216,15 @@ fn dr_rule(r: Registers) -> u8
     if full { QUEUE_FULL } else { DONE }
 }
 
-fn write_rule(r: Registers, register: Register, value: u32) -> u8
-    ensures { λ n. ⌜ n ≡ writeRule (modelOf r) register value ⌝ }
+fn write_rule(r: Registers, active: bool, register: Register, value: u32) -> u8
+    ensures { λ n. ⌜ n ≡ writeRule (modelOf r) active register value ⌝ }
 {
     match register {
-        Register::Cr0 => cr0_rule(r, value),
-        Register::Cr1 => cr1_rule(r, value),
+        Register::Cr0 => cr0_rule(active, value),
+        Register::Cr1 => cr1_rule(r, active, value),
         Register::Dr => dr_rule(r),
         Register::Sr => DONE,
-        Register::Cpsr => cpsr_rule(r),
+        Register::Cpsr => cpsr_rule(active),
         Register::Imsc => DONE,
         Register::Ris => DONE,
         Register::Mis => DONE,
@@ -236,13 +236,13 @@ fn write_rule(r: Registers, register: Register, value: u32) -> u8
     }
 }
 
-fn write_refusal(r: Registers, register: Register, value: u32) -> u8
-    ensures { λ n. ⌜ n ≡ writeRefusal (modelOf r) register value ⌝ }
+fn write_refusal(r: Registers, active: bool, register: Register, value: u32) -> u8
+    ensures { λ n. ⌜ n ≡ writeRefusal (modelOf r) active register value ⌝ }
 {
     let first = write_access(register, value);
     let passed = first == DONE;
     if passed {
-        return write_rule(r, register, value);
+        return write_rule(r, active, register, value);
     }
     first
 }
@@ -371,12 +371,12 @@ fn write_done(r: Registers, register: Register, value: u32) -> Registers
     }
 }
 
-// A register write.
-pub fn write(r: Registers, offset: u32, value: u32) -> Written
-    ensures { λ o. ⌜ Write (modelOf r) offset value o ⌝ }
+// A register write; `active` says whether the engine is.
+pub fn write(r: Registers, active: bool, offset: u32, value: u32) -> Written
+    ensures { λ o. ⌜ Write (modelOf r) active offset value o ⌝ }
 {
     let register = crate::offsets::register_of(offset);
-    let refusal = write_refusal(r, register, value);
+    let refusal = write_refusal(r, active, register, value);
     if refusal != DONE {
         return Written {
             refusal,

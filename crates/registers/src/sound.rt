@@ -6,14 +6,13 @@ use crate::Control;
 use crate::Masks;
 use crate::Registers;
 
-// CR0 is 0 or permitted, CPSR even, CR1 at most 15; SSE set only with permitted CR0 and CPSR not 0.
-fn control_sound(c: Control) -> bool
-    ensures { λ s. ⌜ s ≡ controlSound c ⌝ }
+// CR0 is 0 or permitted, CPSR even, CR1 at most 15; active only with permitted CR0 and CPSR not 0.
+fn control_sound(c: Control, active: bool) -> bool
+    ensures { λ s. ⌜ s ≡ controlSound c active ⌝ }
 {
     let permitted = crate::settings::permitted_of(c.cr0 as u32);
-    let on = crate::settings::enabled_of(c);
     (((c.cr0 == 0) | permitted) & (c.cpsr % 2 == 0))
-        & ((c.cr1 <= 15) & (!on | (permitted & (c.cpsr != 0))))
+        & ((c.cr1 <= 15) & (!active | (permitted & (c.cpsr != 0))))
 }
 
 // IMSC at most 15, DMACR at most 3.
@@ -46,12 +45,12 @@ fn count_sound(r: Registers) -> bool
 }
 
 // Whether registers, queues and timeout are sound together.
-pub fn sound_registers(r: Registers) -> bool
-    ensures { λ s. ⌜ s ≡ soundRegisters (modelOf r) ⌝ }
+pub fn sound_registers(r: Registers, active: bool) -> bool
+    ensures { λ s. ⌜ s ≡ soundRegisters (modelOf r) active ⌝ }
 {
     let c = r.control;
     let k = r.masks;
-    let control = control_sound(c);
+    let control = control_sound(c, active);
     let masks = masks_sound(k);
     let queues = queues_sound(r);
     let count = count_sound(r);

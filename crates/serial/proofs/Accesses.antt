@@ -14,7 +14,7 @@ use Rattle.registers.specs.Access.{readRefusal, readWord, readDone, readModel, 
 use Rattle.registers.specs.declared.access.Answer.the-variants.{Word, Refused}
 use Rattle.registers.specs.declared.offsets.Register.{Register}
 use Rattle.registers.specs.declared.offsets.Register.the-variants.{Cr0, Cr1, Dr, Sr, Cpsr, Imsc, Ris, Mis, Icr, Dmacr, Identity, Reserved, Outside}
-use Rattle.serial.specs.Cycle.{DeviceModel}
+use Rattle.serial.specs.Cycle.{DeviceModel, activeDevice}
 use Rattle.registers.proofs.Picks.{pick-no, pick-both}
 use Rattle.serial.specs.Engine.{cleared}
 use Rattle.serial.specs.Access.{readAnswerOf, readDevice, writeRefusalOf, engineAfter, writeDevice}
@@ -67,29 +67,29 @@ write-access-most (Identity i) v = omega arith
 write-access-most Reserved v = omega arith
 write-access-most Outside v = omega arith
 
-write-rule-most : (m : Model) (p : Register) (v : ℕ) → writeRule m p v ≤ 8
+write-rule-most : (m : Model) (active : Bool) (p : Register) (v : ℕ) → writeRule m active p v ≤ 8
 unfolding cr0Rule cr1Rule cpsrRule drRule
-write-rule-most m Cr0 v = pick-most (enabledOf (m .control)) 5 _ (omega arith) (pick-most (permittedOf v) 0 6 (omega arith) (omega arith))
-write-rule-most m Cr1 v =
-    pick-most (enabledOf (m .control) && (bitsDiffer (m .control .cr1) v 2 || bitsDiffer (m .control .cr1) v 0)) 5 _ (omega arith)
+write-rule-most m active Cr0 v = pick-most active 5 _ (omega arith) (pick-most (permittedOf v) 0 6 (omega arith) (omega arith))
+write-rule-most m active Cr1 v =
+    pick-most (active && (bitsDiffer (m .control .cr1) v 2 || bitsDiffer (m .control .cr1) v 0)) 5 _ (omega arith)
     (pick-most (bitAt v 1 && (not (permittedOf (m .control .cr0)) || eqb (m .control .cpsr) 0)) 6 0 (omega arith) (omega arith))
-write-rule-most m Dr v = pick-most (leb 8 (length (m .tx))) 7 0 (omega arith) (omega arith)
-write-rule-most m Sr v = omega arith
-write-rule-most m Cpsr v = pick-most (enabledOf (m .control)) 5 0 (omega arith) (omega arith)
-write-rule-most m Imsc v = omega arith
-write-rule-most m Ris v = omega arith
-write-rule-most m Mis v = omega arith
-write-rule-most m Icr v = omega arith
-write-rule-most m Dmacr v = omega arith
-write-rule-most m (Identity i) v = omega arith
-write-rule-most m Reserved v = omega arith
-write-rule-most m Outside v = omega arith
+write-rule-most m active Dr v = pick-most (leb 8 (length (m .tx))) 7 0 (omega arith) (omega arith)
+write-rule-most m active Sr v = omega arith
+write-rule-most m active Cpsr v = pick-most active 5 0 (omega arith) (omega arith)
+write-rule-most m active Imsc v = omega arith
+write-rule-most m active Ris v = omega arith
+write-rule-most m active Mis v = omega arith
+write-rule-most m active Icr v = omega arith
+write-rule-most m active Dmacr v = omega arith
+write-rule-most m active (Identity i) v = omega arith
+write-rule-most m active Reserved v = omega arith
+write-rule-most m active Outside v = omega arith
 
 pub write-most : (d : DeviceModel) (o v : ℕ) → writeRefusalOf d o v ≤ 8
 unfolding writeRefusalOf writeRefusal
 write-most d o v =
     let a = writeAccess (registerOf o) v in
-    pick-most (eqb a 0) (writeRule (d .registers) (registerOf o) v) a (write-rule-most (d .registers) (registerOf o) v) (write-access-most (registerOf o) v)
+    pick-most (eqb a 0) (writeRule (d .registers) (activeDevice d) (registerOf o) v) a (write-rule-most (d .registers) (activeDevice d) (registerOf o) v) (write-access-most (registerOf o) v)
 
 -- A read is never refused with 0.
 refused-some : (t : Bool) (x w k : ℕ) → eqb x 0 ≡ t → pick t (Word w) (Refused x) ≡ Refused k → eqb k 0 ≡ false

@@ -2,6 +2,7 @@
 use Prim.Native.Nat.{ℕ, _+_, _*_, _%_, _^_, _≤_, _<_}
 use mathlib.Core.Path.{_≡_, refl, sym, ap, _∙_}
 use mathlib.Core.Bool.{Bool, true, false, not, _&&_, _||_}
+use mathlib.Core.Logic.{inr}
 use native.Mathlib.Omega.{arith}
 use native.Mathlib.Nat.{mod-le}
 use lib.Dec.{ltb, leb, eqb}
@@ -11,11 +12,11 @@ use Rattle.registers.specs.Choose.{pick}
 use Rattle.registers.proofs.Picks.{pick-yes, pick-no, pick-both, and-left, and-right, and-both, and-off}
 use Rattle.registers.specs.Model.{Model}
 use Rattle.registers.specs.Settings.{formatOf, bitsOf, divisorOf, enabledOf, settingsOf}
-use Rattle.registers.specs.Access.{writeModel}
+use Rattle.registers.specs.Access.{writeModel, readModel}
 use Rattle.registers.proofs.Accesses.{SameDivider, control-read, divider-write}
-use Rattle.registers.specs.Transfer.{waitingOf, nextWord}
+use Rattle.registers.specs.Transfer.{waitingOf, nextWord, takeWord, receiveWord}
 use Rattle.registers.specs.Sound.{soundRegisters, registersFit}
-use Rattle.registers.proofs.Soundness.{ControlFacts, divisor-positive, divisor-most, bits-most}
+use Rattle.registers.proofs.Soundness.{ControlFacts, Enables, divisor-positive, divisor-most, bits-most}
 use Rattle.registers.proofs.Soundness as file
 use Rattle.registers.specs.declared.Control.{Control}
 use Rattle.registers.specs.declared.settings.Format.{Format}
@@ -27,7 +28,7 @@ use Rattle.serial.specs.Slots.{motorolaEvent, tiEvent, microwireEvent, e
 use Rattle.serial.specs.Lines.{masterTxd}
 use Rattle.serial.specs.Master.{joinedShift, act, resting, acting, dataBit, masterStep, ticked, masterEnd}
 use Rattle.serial.specs.Slave.{slaveTake, selectedOf, motorolaSelect, captureEdge, driveEdge, motorolaClock, motorolaEdges, motorolaSlave, withMark, tiFalls, tiRises, tiSlave, slaveOn, slaveStep, endedOn, slaveEnd}
-use Rattle.serial.specs.Cycle.{DeviceModel, resetDevice, stepOf, endOf, deviceStep, cycleOf}
+use Rattle.serial.specs.Cycle.{DeviceModel, resetDevice, stepOf, endOf, deviceStep, cycleOf, activeDevice}
 use Rattle.serial.proofs.Cycles.{step-keeps, control-cycle, step-stopped, cycle-stopped}
 use Rattle.serial.specs.Access.{readDevice, engineAfter, writeDevice}
 use Rattle.serial.specs.Sound.{stoppedSound, runningSound, engineSound, soundDevice, deviceFits}
@@ -343,16 +344,17 @@ fits-both d m t =
     (and-both _ _ (and-both _ _ (and-both _ _ (lt-ltb _ _ (t .slot)) (lt-ltb _ _ (t .elapsed))) (lt-ltb _ _ (t .captured)))
     (and-both _ _ (lt-ltb _ _ (t .sending)) (lt-ltb _ _ (t .receiving))))
 
-pub sound-registers : (d : DeviceModel) → soundDevice d ≡ true → soundRegisters (d .registers) ≡ true
-unfolding soundDevice
-sound-registers d h = and-left (soundRegisters (d .registers)) _ h
+-- an engine is active where SSE is 1
+pub sound-registers : (d : DeviceModel) → soundDevice d ≡ true → soundRegisters (d .registers) (enabledOf (d .registers .control)) ≡ true
+unfolding soundDevice settingsOf
+sound-registers d h = and-left (soundRegisters (d .registers) (enabledOf (d .registers .control))) _ h
 
 pub sound-engine : (d : DeviceModel) → soundDevice d ≡ true → engineSound (settingsOf (d .registers .control)) (d .engine) ≡ true
 unfolding soundDevice
-sound-engine d h = and-right (soundRegisters (d .registers)) _ h
+sound-engine d h = and-right (soundRegisters (d .registers) (activeDevice d)) _ h
 
-sound-both : (d : DeviceModel) → soundRegisters (d .registers) ≡ true → engineSound (settingsOf (d .registers .control)) (d .engine) ≡ true → soundDevice d ≡ true
-unfolding soundDevice
+sound-both : (d : DeviceModel) → soundRegisters (d .registers) (enabledOf (d .registers .control)) ≡ true → engineSound (settingsOf (d .registers .control)) (d .engine) ≡ true → soundDevice d ≡ true
+unfolding soundDevice settingsOf
 sound-both d m e = and-both _ _ m e
 
 -- an enabled device's engine
@@ -382,19 +384,19 @@ unfolding engineSound settingsOf
 running-sound c e k h = pick-yes _ _ k ∙ h
 
 -- an engine that stands still is sound whatever the control registers say
-stopped-sound : (c : Control) (e : Engine) → ControlFacts c → stoppedSound e ≡ true → engineSound (settingsOf c) e ≡ true
+stopped-sound : (c : Control) (e : Engine) → ControlFacts c (enabledOf c) → stoppedSound e ≡ true → engineSound (settingsOf c) e ≡ true
 unfolding engineSound settingsOf
 stopped-sound c e t h =
     let z = stopped-elim e h in
     pick-both (λ (x : Bool). x ≡ true) (enabledOf c) _ _
     (λ k. running-intro ⊥ (settingsOf c) e (record {
       slot = let p = z .slot in omega arith;
-      elapsed = let p = z .elapsed in let q = divisor-positive c t k in omega arith;
+      elapsed = let p = z .elapsed in let q = divisor-positive c (enabledOf c) t k in omega arith;
       shift = record { captured = let p = z .captured in omega arith; sending = λ f. absurd f; receiving = λ f. absurd f };
     }))
     (λ _. h)
 
-cleared-sound : (c : Control) → ControlFacts c → engineSound (settingsOf c) cleared ≡ true
+cleared-sound : (c : Control) → ControlFacts c (enabledOf c) → engineSound (settingsOf c) cleared ≡ true
 unfolding stoppedSound
 cleared-sound c t = stopped-sound c cleared t refl
 
@@ -403,8 +405,12 @@ cleared-fit = record { slot = omega arith; elapsed = omega arith; captured = ome
 
 -- Reset and accesses -------------------------------------------------------------------------------------------------
 
+reset-registers : soundRegisters (resetDevice .registers) (enabledOf (resetDevice .registers .control)) ≡ true
+unfolding enabledOf
+reset-registers = file.sound-reset
+
 pub sound-reset : soundDevice resetDevice ≡ true
-sound-reset = sound-both resetDevice file.sound-reset (cleared-sound _ (file.sound-elim _ file.sound-reset .control))
+sound-reset = sound-both resetDevice reset-registers (cleared-sound _ (file.sound-elim _ _ reset-registers .control))
 
 pub fits-reset : deviceFits resetDevice ≡ true
 fits-reset = fits-both resetDevice file.fits-reset cleared-fit
@@ -412,7 +418,8 @@ fits-reset = fits-both resetDevice file.fits-reset cleared-fit
 pub sound-read : (d : DeviceModel) (o : ℕ) → soundDevice d ≡ true → soundDevice (readDevice d o) ≡ true
 unfolding readDevice
 sound-read d o h =
-    sound-both _ (file.sound-read (d .registers) o (sound-registers d h))
+    let m = d .registers in
+    sound-both _ (ap (λ (c : Control). soundRegisters (readModel m o) (enabledOf c)) (control-read m o) ∙ file.sound-read m (enabledOf (m .control)) o (λ e. e) (sound-registers d h))
     (ap (λ (c : Control). engineSound (settingsOf c) (d .engine)) (control-read (d .registers) o) ∙ sound-engine d h)
 
 pub fits-read : (d : DeviceModel) (o : ℕ) → deviceFits d ≡ true → deviceFits (readDevice d o) ≡ true
@@ -420,46 +427,51 @@ unfolding readDevice
 fits-read d o h = fits-both _ (file.fits-read (d .registers) o (fits-registers d h)) (engine-fit d h)
 
 -- A write that leaves SSE set leaves all that a running engine's soundness hangs on.
-written-sound : (m n : Model) (e : Engine) → ControlFacts (n .control) → SameDivider m n → enabledOf (m .control) ≡ true → enabledOf (n .control) ≡ true
+written-sound : (m n : Model) (e : Engine) → ControlFacts (n .control) (enabledOf (n .control)) → SameDivider m n → enabledOf (m .control) ≡ true → enabledOf (n .control) ≡ true
     → engineSound (settingsOf (m .control)) e ≡ true → engineSound (settingsOf (n .control)) e ≡ true
 unfolding engineSound runningSound settingsOf divisorOf lastSlot
 written-sound m n e t same k l h =
     pick-yes _ _ l ∙ rw (same .cr0, same .cpsr) (sym (pick-yes _ _ k) ∙ h)
 
 pub sound-write : (d : DeviceModel) (o v : ℕ) → soundDevice d ≡ true → soundDevice (writeDevice d o v) ≡ true
-unfolding writeDevice engineAfter
+unfolding writeDevice engineAfter settingsOf
 sound-write d o v h =
     let m = d .registers in
-    let n = writeModel m o v in
-    let r = file.sound-write m o v (sound-registers d h) in
-    let t = file.sound-elim n r .control in
+    let n = writeModel m (enabledOf (m .control)) o v in
+    let r = file.sound-write m (enabledOf (m .control)) (enabledOf (n .control)) o v (λ e. e) (sound-registers d h) (λ e. inr e) (λ e. e) in
+    let t = file.sound-elim n (enabledOf (n .control)) r .control in
     sound-both _ r
     (pick-both (λ (e : Engine). engineSound (settingsOf (n .control)) e ≡ true) (enabledOf (m .control) && not (enabledOf (n .control))) _ _
     (λ _. cleared-sound (n .control) t)
     (λ k. go (enabledOf (m .control)) refl t k))
   where
-    go : (x : Bool) → enabledOf (d .registers .control) ≡ x → ControlFacts (writeModel (d .registers) o v .control)
-        → (enabledOf (d .registers .control) && not (enabledOf (writeModel (d .registers) o v .control))) ≡ false
-        → engineSound (settingsOf (writeModel (d .registers) o v .control)) (d .engine) ≡ true
+    on : Bool
+    on = enabledOf (d .registers .control)
+
+    n : Model
+    n = writeModel (d .registers) on o v
+
+    go : (x : Bool) → on ≡ x → ControlFacts (n .control) (enabledOf (n .control)) → (on && not (enabledOf (n .control))) ≡ false → engineSound (settingsOf (n .control)) (d .engine) ≡ true
     go true e t k =
-        written-sound (d .registers) (writeModel (d .registers) o v) (d .engine) t (divider-write (d .registers) o v e) e
-        (not-false _ (and-off (enabledOf (d .registers .control)) _ k e)) (sound-engine d h)
-    go false e t k = stopped-sound (writeModel (d .registers) o v .control) (d .engine) t (stopped d h e)
+        written-sound (d .registers) n (d .engine) t (divider-write (d .registers) on o v e) e
+        (not-false _ (and-off on _ k e)) (sound-engine d h)
+    go false e t k = stopped-sound (n .control) (d .engine) t (stopped d h e)
 
 pub fits-write : (d : DeviceModel) (o v : ℕ) → deviceFits d ≡ true → deviceFits (writeDevice d o v) ≡ true
 unfolding writeDevice engineAfter
 fits-write d o v h =
-    fits-both _ (file.fits-write (d .registers) o v (fits-registers d h))
-    (pick-both (λ (e : Engine). EngineFit e) (enabledOf (d .registers .control) && not (enabledOf (writeModel (d .registers) o v .control))) _ _
+    fits-both _ (file.fits-write (d .registers) (activeDevice d) o v (fits-registers d h))
+    (pick-both (λ (e : Engine). EngineFit e) (enabledOf (d .registers .control) && not (enabledOf (writeModel (d .registers) (activeDevice d) o v .control))) _ _
     (λ _. cleared-fit) (λ _. engine-fit d h))
 
 -- A cycle ------------------------------------------------------------------------------------------------------------
 
-registers-cycle : (d : DeviceModel) (pins : Pins) → soundRegisters (d .registers) ≡ true → soundRegisters (cycleOf d pins .registers) ≡ true
-unfolding cycleOf
+registers-cycle : (d : DeviceModel) (pins : Pins) → soundRegisters (d .registers) (enabledOf (d .registers .control)) ≡ true → soundRegisters (cycleOf d pins .registers) (enabledOf (d .registers .control)) ≡ true
+unfolding cycleOf takeWord receiveWord
 registers-cycle d pins h =
-    file.sound-end _ _
-    (step-keeps (λ (x : Model). soundRegisters x ≡ true) (d .registers) (deviceStep d pins) file.sound-take (λ x k. file.sound-receive x (deviceStep d pins .word) k) h)
+    let a = enabledOf (d .registers .control) in
+    let k = step-keeps (λ (x : Model). (Enables (x .control) a) × (soundRegisters x a ≡ true)) (d .registers) (deviceStep d pins) (λ x k. (k .0, file.sound-take x a (k .1))) (λ x k. (k .0, file.sound-receive x a (deviceStep d pins .word) (k .1))) ((λ e. e), h) in
+    file.sound-end _ a _ (k .0) (k .1)
 
 fits-registers-cycle : (d : DeviceModel) (pins : Pins) → deviceStep d pins .word < 0x10000 → registersFit (d .registers) ≡ true → registersFit (cycleOf d pins .registers) ≡ true
 unfolding cycleOf
@@ -490,14 +502,14 @@ cycle-enabled d pins h k =
 
 pub sound-cycle : (d : DeviceModel) (pins : Pins) → soundDevice d ≡ true → soundDevice (cycleOf d pins) ≡ true
 sound-cycle d pins h =
-    sound-both (cycleOf d pins) (registers-cycle d pins (sound-registers d h))
+    sound-both (cycleOf d pins) (ap (λ (c : Control). soundRegisters (cycleOf d pins .registers) (enabledOf c)) (control-cycle d pins) ∙ registers-cycle d pins (sound-registers d h))
     (ap (λ (c : Control). engineSound (settingsOf c) (cycleOf d pins .engine)) (control-cycle d pins) ∙ go (enabledOf (d .registers .control)) refl)
   where
     go : (x : Bool) → enabledOf (d .registers .control) ≡ x → engineSound (settingsOf (d .registers .control)) (cycleOf d pins .engine) ≡ true
     go true k = running-sound (d .registers .control) _ k (running-intro _ _ _ (cycle-enabled d pins h k))
     go false k =
         ap (λ (e : Engine). engineSound (settingsOf (d .registers .control)) e) (cycle-stopped d pins k)
-        ∙ cleared-sound (d .registers .control) (file.sound-elim (d .registers) (sound-registers d h) .control)
+        ∙ cleared-sound (d .registers .control) (file.sound-elim (d .registers) (enabledOf (d .registers .control)) (sound-registers d h) .control)
 
 -- a running engine within its bounds has room in the bytes
 last-most : (f : Format) (b : ℕ) → b ≤ 16 → lastOn f b ≤ 52

@@ -9,7 +9,7 @@ use Rattle.registers.specs.Access.{readAnswer, readModel, writeRefusal, writeMo
 use Rattle.registers.specs.Model.{Model}
 use Rattle.registers.specs.declared.access.Answer.{Answer}
 use Rattle.serial.specs.Engine.{cleared}
-use Rattle.serial.specs.Cycle.{DeviceModel, deviceOf}
+use Rattle.serial.specs.Cycle.{DeviceModel, deviceOf, activeDevice}
 use Rattle.serial.specs.declared.engine.Engine.{Engine}
 use Rattle.serial.specs.declared.access.Reading.{Reading}
 use Rattle.serial.specs.declared.access.Written.{Written}
@@ -23,7 +23,7 @@ readDevice d o = record { registers = readModel (d .registers) o; engine = d .en
 
 -- The refusal number of a write, 0 if it is done.
 unfoldable pub writeRefusalOf : DeviceModel → ℕ → ℕ → ℕ
-writeRefusalOf d o v = writeRefusal (d .registers) (registerOf o) v
+writeRefusalOf d o v = writeRefusal (d .registers) (activeDevice d) (registerOf o) v
 
 -- Clearing SSE ends a frame or an idle slot at once: the engine is clear.
 unfoldable pub engineAfter : Model → Model → Engine → Engine
@@ -31,7 +31,7 @@ engineAfter old new e = pick (enabledOf (old .control) && not (enabledOf (new .c
 
 unfoldable pub writeDevice : DeviceModel → ℕ → ℕ → DeviceModel
 writeDevice d o v =
-    let m = writeModel (d .registers) o v in
+    let m = writeModel (d .registers) (activeDevice d) o v in
     record { registers = m; engine = engineAfter (d .registers) m (d .engine); pins = d .pins; lines = d .lines }
 
 pub record Read (d : DeviceModel) (o : ℕ) (r : Reading) : Type 0 where

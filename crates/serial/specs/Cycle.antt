@@ -8,7 +8,7 @@ use Rattle.registers.specs.Model.{Model, modelOf, resetRegisters}
 use Rattle.registers.specs.Settings.{settingsOf}
 use Rattle.registers.specs.Transfer.{waitingOf, nextWord, takeWord, receiveWord, endCycle}
 use Rattle.registers.specs.declared.settings.Settings.{Settings}
-use Rattle.serial.specs.Engine.{cleared, noWord}
+use Rattle.serial.specs.Engine.{activeOf, cleared, noWord}
 use Rattle.serial.specs.Lines.{linesOf}
 use Rattle.serial.specs.Master.{masterStep, masterEnd}
 use Rattle.serial.specs.Slave.{slaveStep, slaveEnd}
@@ -45,10 +45,14 @@ resetDevice =
       lines = record { clk = false; fss = true; txd = false; released = true };
     }
 
--- The engine's step. With SSE clear it is clear; a slave sees the pins of two cycles ago, a master those of this one.
+-- The engine of a device is active.
+abbrev pub activeDevice : DeviceModel → Bool
+activeDevice d = activeOf (settingsOf (d .registers .control)) (d .engine)
+
+-- The engine's step. Where it is not active it is clear; a slave sees the pins of two cycles ago, a master those of this one.
 unfoldable pub stepOf : Settings → Engine → History → Pins → Bool → ℕ → Step
 stepOf s e h pins waiting next =
-    pick (s .enabled)
+    pick (activeOf s e)
     (pick (s .slave) (slaveStep s e (h .oldest) (h .middle) next) (masterStep s e waiting next (pins .rxd)))
     (noWord cleared)
 

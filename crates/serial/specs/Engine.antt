@@ -4,11 +4,16 @@ use mathlib.Core.Bool.{Bool, true, false}
 use lib.Dec.{ltb, eqb}
 use Rattle.registers.specs.Choose.{pick}
 use Rattle.registers.specs.Time.{cycles, slots}
+use Rattle.registers.specs.declared.settings.Settings.{Settings}
 use Rattle.registers.specs.declared.time.Slots.{Slots}
 use Rattle.serial.specs.Bits.{bitOf, cut, shiftedIn}
 use Rattle.serial.specs.declared.engine.Shift.{Shift}
 use Rattle.serial.specs.declared.engine.Engine.{Engine}
 use Rattle.serial.specs.declared.engine.Step.{Step}
+
+-- The engine is active: SSE is 1. Its step, refusal 5 and the bounds of soundness go by this.
+abbrev pub activeOf : Settings → Engine → Bool
+activeOf s e = s .enabled
 
 -- Nothing in the shift registers.
 abbrev pub clearShift : Shift

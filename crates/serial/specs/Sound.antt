@@ -6,25 +6,26 @@ use Rattle.registers.specs.Choose.{pick}
 use Rattle.registers.specs.Settings.{settingsOf}
 use Rattle.registers.specs.Sound.{soundRegisters, registersFit}
 use Rattle.registers.specs.declared.settings.Settings.{Settings}
+use Rattle.serial.specs.Engine.{activeOf}
 use Rattle.serial.specs.Slots.{lastSlot, captureWidth}
-use Rattle.serial.specs.Cycle.{DeviceModel}
+use Rattle.serial.specs.Cycle.{DeviceModel, activeDevice}
 use Rattle.serial.specs.declared.engine.Engine.{Engine}
 
--- With SSE clear: no frame, no selection, no TI mark; slot, cycle and bit counts 0.
+-- Where it is not active: no frame, no selection, no TI mark; slot, cycle and bit counts 0.
 unfoldable pub stoppedSound : Engine → Bool
 stoppedSound e =
     ((not (e .frame) && not (e .selected)) && not (e .mark))
     && ((eqb (e .slot .0) 0 && eqb (e .elapsed .0) 0) && eqb (e .shift .captured) 0)
 
--- With SSE set: slot number at most the format's last, cycles gone in the slot below h, captured bits at most the width of a received word, b.
+-- Where it is active: slot number at most the format's last, cycles gone in the slot below h, captured bits at most the width of a received word, b.
 unfoldable pub runningSound : Settings → Engine → Bool
 runningSound s e = (leb (e .slot .0) (lastSlot s .0) && ltb (e .elapsed .0) (s .divisor .0)) && leb (e .shift .captured) (captureWidth s)
 
 unfoldable pub engineSound : Settings → Engine → Bool
-engineSound s e = pick (s .enabled) (runningSound s e) (stoppedSound e)
+engineSound s e = pick (activeOf s e) (runningSound s e) (stoppedSound e)
 
 unfoldable pub soundDevice : DeviceModel → Bool
-soundDevice d = soundRegisters (d .registers) && engineSound (settingsOf (d .registers .control)) (d .engine)
+soundDevice d = soundRegisters (d .registers) (activeDevice d) && engineSound (settingsOf (d .registers .control)) (d .engine)
 
 -- What the bytes of a record can hold: true of every device that the code makes.
 unfoldable pub deviceFits : DeviceModel → Bool

@@ -32,7 +32,9 @@ pub fn write(d: Device, offset: u32, value: u32) -> Written
     ensures { λ r. ⌜ Write (deviceOf d) offset value r ⌝ }
 {
     let was = registers::settings::enabled(d.registers);
-    let out = registers::access::write(d.registers, offset, value);
+    let s = registers::settings::settings_of(d.registers);
+    let active = crate::engine::active_of(s, d.engine);
+    let out = registers::access::write(d.registers, active, offset, value);
     let registers = out.registers;
     let is = registers::settings::enabled(registers);
     let stops = was & !is;

@@ -13,9 +13,9 @@ use registers::settings::Settings;
 fn step_of(s: Settings, e: Engine, h: History, pins: Pins, waiting: bool, next: u16) -> Step
     ensures { λ r. ⌜ r ≡ stepOf s e h pins waiting next ⌝ }
 {
-    let on = s.enabled;
+    let active = crate::engine::active_of(s, e);
     let slave = s.slave;
-    if on {
+    if active {
         if slave {
             let before = h.oldest;
             let seen = h.middle;

@@ -1,6 +1,7 @@
 // The engine's state, and the steps of its shift registers.
 ghost use mathlib.Core.Path.{_≡_};
-ghost use Rattle.serial.specs.Engine.{clearShift, cleared, withShift, withFrame, withSlot, loaded, started, driven, quieted, capturedOf, completes, noWord, begun, captureStep};
+ghost use Rattle.serial.specs.Engine.{activeOf, clearShift, cleared, withShift, withFrame, withSlot, loaded, started, driven, quieted, capturedOf, completes, noWord, begun, captureStep};
+use registers::settings::Settings;
 use registers::time::Cycles;
 use registers::time::Slots;
 
@@ -36,6 +37,13 @@ pub struct Step {
     // a word was completed: this one, else 0
     pub complete: bool,
     pub word: u16,
+}
+
+// Whether the engine is active: SSE is 1. Its step, refusal 5 and the bounds of soundness go by this.
+pub fn active_of(s: Settings, e: Engine) -> bool
+    ensures { λ r. ⌜ r ≡ activeOf s e ⌝ }
+{
+    s.enabled
 }
 
 pub fn clear_shift() -> Shift

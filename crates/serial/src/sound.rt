@@ -26,8 +26,8 @@ fn running_sound(s: Settings, e: Engine) -> bool
 fn engine_sound(s: Settings, e: Engine) -> bool
     ensures { λ r. ⌜ r ≡ engineSound s e ⌝ }
 {
-    let on = s.enabled;
-    if on {
+    let active = crate::engine::active_of(s, e);
+    if active {
         running_sound(s, e)
     } else {
         stopped_sound(e)
@@ -41,7 +41,8 @@ pub fn sound_device(d: Device) -> bool
     let file = d.registers;
     let e = d.engine;
     let s = registers::settings::settings_of(file);
-    let kept = registers::sound::sound_registers(file);
+    let active = crate::engine::active_of(s, e);
+    let kept = registers::sound::sound_registers(file, active);
     let runs = engine_sound(s, e);
     kept & runs
 }

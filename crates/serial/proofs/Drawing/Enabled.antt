@@ -14,7 +14,7 @@ use Rattle.registers.specs.declared.settings.Settings.{Settings}
 use Rattle.serial.specs.Bits.{cut}
 use Rattle.serial.specs.Slots.{widthOf}
 use Rattle.serial.specs.Lines.{byteOf}
-use Rattle.serial.specs.Cycle.{DeviceModel, recording}
+use Rattle.serial.specs.Cycle.{DeviceModel, recording, activeDevice}
 use Rattle.serial.proofs.Unreceived.{Masters}
 use Rattle.serial.specs.Access.{engineAfter, writeDevice}
 use Rattle.serial.specs.Sound.{stoppedSound, engineSound, soundDevice}
@@ -52,7 +52,7 @@ pub fresh-sound : (d : DeviceModel) → soundDevice d ≡ true → enabledOf (d 
 unfolding settingsOf
 fresh-sound d h e m z =
     let c = d .registers .control in
-    let t = enabled-elim c (control-intro c (sound-elim (d .registers) (sound-registers d h) .control)) e in
+    let t = enabled-elim c (enabledOf c) (control-intro c (enabledOf c) (sound-elim (d .registers) (enabledOf c) (sound-registers d h) .control)) e in
     record {
       set = refl;
       enabled = e;
@@ -69,7 +69,7 @@ fresh-sound d h e m z =
 -- An access by which SSE goes from 0 to 1 leaves the engine.
 engine-enabling : (d : DeviceModel) (o v : ℕ) → enabledOf (d .registers .control) ≡ false → writeDevice d o v .engine ≡ d .engine
 unfolding writeDevice engineAfter
-engine-enabling d o v k = pick-no _ _ (ap (λ (t : Bool). t && not (enabledOf (writeModel (d .registers) o v .control))) k)
+engine-enabling d o v k = pick-no _ _ (ap (λ (t : Bool). t && not (enabledOf (writeModel (d .registers) (activeDevice d) o v .control))) k)
 
 pub fresh-enabling : (s : Settings) (d : DeviceModel) (o v : ℕ) → Enabling s d o v → Fresh s (writeDevice d o v)
 unfolding settingsOf

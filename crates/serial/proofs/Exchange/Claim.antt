@@ -20,7 +20,7 @@ use Rattle.registers.specs.declared.settings.Settings.{Settings}
 use Rattle.serial.specs.Engine.{cleared, noWord}
 use Rattle.serial.specs.Lines.{idleOn, linesOf, masterLines, slaveLines, differ, masterTxd}
 use Rattle.serial.specs.Slave.{slaveStep, motorolaSlave, tiSlave}
-use Rattle.serial.specs.Cycle.{DeviceModel, deviceStep, stepOf}
+use Rattle.serial.specs.Cycle.{DeviceModel, deviceStep, stepOf, activeDevice}
 use Rattle.serial.proofs.Cycles.{control-cycle, step-stopped}
 use Rattle.serial.specs.Access.{writeDevice}
 use Rattle.serial.proofs.Soundness.{sound-registers}
@@ -171,10 +171,10 @@ module _ {f : Format} (S : Serial f) (phase p : Bool) (b h k : ℕ) (o : Bool) (
       (record { frame = ap (λ (x : Engine). x .frame) e; slot = ap (λ (x : Engine). x .slot .0) e; elapsed = ap (λ (x : Engine). x .elapsed .0) e })
 
   held-small₁ : length (held master g) ≤ 8
-  held-small₁ = sound-elim (g .first .registers) (sound-registers (g .first) (L .sound₁)) .rx
+  held-small₁ = sound-elim (g .first .registers) _ (sound-registers (g .first) (L .sound₁)) .rx
 
   held-small₂ : length (held slave g) ≤ 8
-  held-small₂ = sound-elim (g .second .registers) (sound-registers (g .second) (L .sound₂)) .rx
+  held-small₂ = sound-elim (g .second .registers) _ (sound-registers (g .second) (L .sound₂)) .rx
 
   in-time : (j : ℕ) → loadCycles X W slow (load master g) ≤ until + j
   in-time j = omega (arith, received-busy S phase b h X W slow (load master g))
@@ -245,7 +245,7 @@ bits-are : (c : Control) → settingsOf c .bits ≡ bitsOf (c .cr0)
 unfolding settingsOf
 bits-are c = refl
 
-control-written : (d : DeviceModel) (o v : ℕ) → writeDevice d o v .registers .control ≡ writeModel (d .registers) o v .control
+control-written : (d : DeviceModel) (o v : ℕ) → writeDevice d o v .registers .control ≡ writeModel (d .registers) (activeDevice d) o v .control
 unfolding writeDevice
 control-written d o v = refl
 
@@ -262,7 +262,7 @@ control-after : (d : DeviceModel) (c : Control) → d .registers .control ≡ c 
     → writeDevice d 0x04 (d .registers .control .cr1 + 2) .registers .control ≡ switchedOn c
 control-after d c e small off good divided =
     control-written d 0x04 (d .registers .control .cr1 + 2)
-    ∙ control-on (d .registers) (subst (λ (z : Control). z .cr1 ≤ 15) (sym e) small) (ap enabledOf e ∙ off) (ap (λ (z : Control). permittedOf (z .cr0)) e ∙ good) (λ w. divided (sym (ap (λ (z : Control). z .cpsr) e) ∙ w))
+    ∙ control-on (d .registers) (activeDevice d) (enabled-is (d .registers .control) ∙ ap enabledOf e ∙ off) (subst (λ (z : Control). z .cr1 ≤ 15) (sym e) small) (ap enabledOf e ∙ off) (ap (λ (z : Control). permittedOf (z .cr0)) e ∙ good) (λ w. divided (sym (ap (λ (z : Control). z .cpsr) e) ∙ w))
     ∙ ap switchedOn e
 
 module _ (p : PairModel) (st : Start p) where
@@ -288,10 +288,10 @@ module _ (p : PairModel) (st : Start p) where
   off₂ = sym (enabled-is (controlOf slave p)) ∙ st .off-slave
 
   small₁ : controlOf master p .cr1 ≤ 15
-  small₁ = sound-elim (p .first .registers) (sound-registers (p .first) (st .sound-master)) .control .cr1
+  small₁ = sound-elim (p .first .registers) _ (sound-registers (p .first) (st .sound-master)) .control .cr1
 
   small₂ : controlOf slave p .cr1 ≤ 15
-  small₂ = sound-elim (p .second .registers) (sound-registers (p .second) (st .sound-slave)) .control .cr1
+  small₂ = sound-elim (p .second .registers) _ (sound-registers (p .second) (st .sound-slave)) .control .cr1
 
   -- the settings of both, off and on
   set₁ : settingsOf (controlOf master p) ≡ named (s₁ .format) (s₁ .phase) (s₁ .polarity) (s₁ .bits) (s₁ .divisor .0) false (s₁ .sod) false

@@ -1,7 +1,7 @@
 -- The CR1 write that sets SSE and nothing else.
 use Prim.Native.Nat.{ℕ, _+_, _*_, _/_, _%_, _≤_, _<_}
 use mathlib.Core.Path.{_≡_, sym, ap, _∙_}
-use mathlib.Core.Bool.{true, false, and-false}
+use mathlib.Core.Bool.{Bool, true, false, and-false}
 use native.Mathlib.Omega.{arith}
 use native.Mathlib.Nat.{mod-eq-of-lt, mod-lt, zero-lt-suc, div-eq-of-lt-le}
 use borrow.Author.Tests.{ne-eqb, lt-leb, eqb-false}
@@ -73,11 +73,11 @@ module _ (c : Control) (small : c .cr1 ≤ 15) (off : enabledOf c ≡ false) whe
   unfolding settingsOf divisorOf enabledOf
   settings-on = rw (same-loopback, same-role, same-output, now-on)
 
-pub control-on : (m : Model) → m .control .cr1 ≤ 15 → enabledOf (m .control) ≡ false → permittedOf (m .control .cr0) ≡ true → (m .control .cpsr ≡ 0 → ⊥)
-    → writeModel m 0x04 (m .control .cr1 + 2) .control ≡ switchedOn (m .control)
+pub control-on : (m : Model) (active : Bool) → active ≡ false → m .control .cr1 ≤ 15 → enabledOf (m .control) ≡ false → permittedOf (m .control .cr0) ≡ true → (m .control .cpsr ≡ 0 → ⊥)
+    → writeModel m active 0x04 (m .control .cr1 + 2) .control ≡ switchedOn (m .control)
 unfolding writeModel writeRefusal registerOf cr1Rule cr1Written
-control-on m small off good divided =
+control-on m active idle small off good divided =
     let c = m .control in
     let f = fits-four c small off in
     let low : (c .cr1 + 2) % 16 ≡ c .cr1 + 2 = mod-eq-of-lt f in
-    rw (lt-leb 16 (c .cr1 + 2) f, off, good, ne-eqb (c .cpsr) 0 divided, and-false (bitAt (c .cr1 + 2) 1), low)
+    rw (lt-leb 16 (c .cr1 + 2) f, idle, good, ne-eqb (c .cpsr) 0 divided, and-false (bitAt (c .cr1 + 2) 1), low)

@@ -18,7 +18,7 @@ use Rattle.registers.specs.declared.offsets.Register.{Register}
 use Rattle.registers.specs.declared.offsets.Register.the-variants.{Cr0, Cr1, Dr, Sr, Cpsr, Imsc, Ris, Mis, Icr, Dmacr, Identity, Reserved, Outside}
 use Rattle.serial.specs.Engine.{cleared, noWord}
 use Rattle.serial.specs.Lines.{linesOf}
-use Rattle.serial.specs.Cycle.{DeviceModel, endOf, takeIf, receiveIf, stepModel, deviceStep, cycleOf}
+use Rattle.serial.specs.Cycle.{DeviceModel, endOf, takeIf, receiveIf, stepModel, deviceStep, cycleOf, activeDevice}
 use Rattle.serial.proofs.Cycles.{control-cycle, step-stopped, end-cleared}
 use Rattle.serial.specs.Access.{readDevice, writeDevice, engineAfter}
 use Rattle.serial.specs.Sound.{soundDevice}
@@ -96,23 +96,23 @@ write-ror m (Identity i) v h = h
 write-ror m Reserved v h = h
 write-ror m Outside v h = h
 
-ror-write : (m : Model) (o v : ℕ) → m .ror ≡ false → writeModel m o v .ror ≡ false
+ror-write : (m : Model) (active : Bool) (o v : ℕ) → m .ror ≡ false → writeModel m active o v .ror ≡ false
 unfolding writeModel
-ror-write m o v h = pick-both (λ (z : Model). z .ror ≡ false) (eqb (writeRefusal m (registerOf o) v) 0) _ _ (λ _. write-ror m (registerOf o) v h) (λ _. h)
+ror-write m active o v h = pick-both (λ (z : Model). z .ror ≡ false) (eqb (writeRefusal m active (registerOf o) v) 0) _ _ (λ _. write-ror m (registerOf o) v h) (λ _. h)
 
 and-not : (t : Bool) → (t && not t) ≡ false
 and-not true = refl
 and-not false = refl
 
 -- the engine stays where SSE does
-engine-write : (d : DeviceModel) (o v : ℕ) → enabledOf (writeModel (d .registers) o v .control) ≡ enabledOf (d .registers .control) → writeDevice d o v .engine ≡ d .engine
+engine-write : (d : DeviceModel) (o v : ℕ) → enabledOf (writeModel (d .registers) (activeDevice d) o v .control) ≡ enabledOf (d .registers .control) → writeDevice d o v .engine ≡ d .engine
 unfolding writeDevice engineAfter
 engine-write d o v h = ap (λ (t : Bool). pick (enabledOf (d .registers .control) && not t) cleared (d .engine)) h ∙ ap (λ (t : Bool). pick t cleared (d .engine)) (and-not (enabledOf (d .registers .control)))
 
 -- and where it was clear
 pub engine-on : (d : DeviceModel) (o v : ℕ) → enabledOf (d .registers .control) ≡ false → writeDevice d o v .engine ≡ d .engine
 unfolding writeDevice engineAfter
-engine-on d o v h = ap (λ (t : Bool). pick (t && not (enabledOf (writeModel (d .registers) o v .control))) cleared (d .engine)) h
+engine-on d o v h = ap (λ (t : Bool). pick (t && not (enabledOf (writeModel (d .registers) (activeDevice d) o v .control))) cleared (d .engine)) h
 
 -- The lead-in ----------------------------------------------------------------------------------------------------------
 
@@ -184,12 +184,12 @@ module _ {i j : Lines} {c₁ c₂ : Control} where
   pub lead-write₁ : (c : Control) (n : ℕ) (g : PairModel) (o v : ℕ) → Lead i j c₁ c₂ n g → controlOf master (play (write master o v) g) ≡ c → writeDevice (g .first) o v .engine ≡ g .first .engine
       → Lead i j c c₂ n (play (write master o v) g)
   unfolding writeDevice
-  lead-write₁ c n g o v l e k = lead-first (writeDevice (g .first) o v) l e (sound-write (g .first) o v (l .sound₁)) (ror-write (g .first .registers) o v (l .ror₁)) k refl
+  lead-write₁ c n g o v l e k = lead-first (writeDevice (g .first) o v) l e (sound-write (g .first) o v (l .sound₁)) (ror-write (g .first .registers) (activeDevice (g .first)) o v (l .ror₁)) k refl
 
   pub lead-write₂ : (c : Control) (n : ℕ) (g : PairModel) (o v : ℕ) → Lead i j c₁ c₂ n g → controlOf slave (play (write slave o v) g) ≡ c → writeDevice (g .second) o v .engine ≡ g .second .engine
       → Lead i j c₁ c n (play (write slave o v) g)
   unfolding writeDevice
-  lead-write₂ c n g o v l e k = lead-second (writeDevice (g .second) o v) l e (sound-write (g .second) o v (l .sound₂)) (ror-write (g .second .registers) o v (l .ror₂)) k refl refl
+  lead-write₂ c n g o v l e k = lead-second (writeDevice (g .second) o v) l e (sound-write (g .second) o v (l .sound₂)) (ror-write (g .second .registers) (activeDevice (g .second)) o v (l .ror₂)) k refl refl
 
   -- a cycle in which both are still
   lead-cycle : (n : ℕ) (g : PairModel) → linesOf (settingsOf c₁) cleared ≡ i → linesOf (settingsOf c₂) cleared ≡ j → Lead i j c₁ c₂ n g

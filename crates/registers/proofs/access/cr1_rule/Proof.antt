@@ -4,9 +4,6 @@ use borrow.Author.Needs.{needs}
 use Rattle.registers.proofs.access.cr1_rule.Statement.{statement}
 use Rattle.registers.proofs.access.cr1_rule.Tie as tie
 
-enabled-requires : tie.Need-enabled-requires
-enabled-requires c κs = search needs
-
 cast-old : tie.Need-cast-old
 cast-old c = search needs
 
@@ -18,24 +15,17 @@ permitted-of-requires c κs = search needs
 
 returns : tie.Need-returns
 unfolding cr1Rule
-returns c = rw (← c .before .before .before .before .before .enabled .ensures, model-of, c .if1 .taken)
+returns c = rw (model-of, c .if1 .taken)
 
 returns-2 : tie.Need-returns-2
 unfolding cr1Rule
-returns-2 c = rw (← c .before .before .before .before .before .before .enabled .ensures, model-of, c .before .if1 .left, ← c .before .before .before .permitted-of .ensures, c .if2 .taken)
+returns-2 c = rw (model-of, c .before .if1 .left, ← c .before .before .before .permitted-of .ensures, c .if2 .taken)
 
 returns-3 : tie.Need-returns-3
 unfolding cr1Rule
-returns-3 c = rw (← c .before .before .before .before .before .before .enabled .ensures, model-of, c .before .if1 .left, ← c .before .before .before .permitted-of .ensures, c .if2 .left)
+returns-3 c = rw (model-of, c .before .if1 .left, ← c .before .before .before .permitted-of .ensures, c .if2 .left)
 
 pub cr1-rule-spec : {M : Type 1} → statement M
 cr1-rule-spec =
     tie.close
-    (tie.spec
-    enabled-requires
-    cast-old
-    cast-permitted-of
-    permitted-of-requires
-    returns
-    returns-2
-    returns-3)
+    (tie.spec cast-old cast-permitted-of permitted-of-requires returns returns-2 returns-3)

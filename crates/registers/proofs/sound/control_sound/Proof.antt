@@ -9,13 +9,9 @@ cast-permitted-of c = search needs
 permitted-of-requires : tie.Need-permitted-of-requires
 permitted-of-requires c κs = search needs
 
-enabled-of-requires : tie.Need-enabled-of-requires
-enabled-of-requires c κs = search needs
-
 returns : tie.Need-returns
 unfolding controlSound
-returns c = rw (c .before .before .before .before .before .permitted-of .ensures, c .before .before .before .before .enabled-of .ensures)
+returns c = rw (c .before .before .before .before .permitted-of .ensures)
 
 pub control-sound-spec : {M : Type 1} → statement M
-control-sound-spec =
-    tie.close (tie.spec cast-permitted-of permitted-of-requires enabled-of-requires returns)
+control-sound-spec = tie.close (tie.spec cast-permitted-of permitted-of-requires returns)

@@ -7,6 +7,12 @@ use Rattle.serial.proofs.access.write.Tie as tie
 enabled-requires : tie.Need-enabled-requires
 enabled-requires c κs = search needs
 
+settings-of-requires : tie.Need-settings-of-requires
+settings-of-requires c κs = search needs
+
+active-of-requires : tie.Need-active-of-requires
+active-of-requires c κs = search needs
+
 write-requires : tie.Need-write-requires
 write-requires c κs = search needs
 
@@ -18,17 +24,19 @@ cleared-requires c κs = search needs
 
 returns : tie.Need-returns
 unfolding deviceOf writeRefusalOf writeDevice engineAfter
-returns c = record { refusal = c .before .before .before .before .write .ensures .refusal; device = rw (← c .before .before .before .before .write .ensures .model, ← c .before .before .before .before .before .enabled .ensures, ← c .before .before .enabled2 .ensures, c .before .if1 .taken, c .cleared .ensures) }
+returns c = record { refusal = rw (← c .before .before .before .before .before .before .settings-of .ensures, ← c .before .before .before .before .before .active-of .ensures) (c .before .before .before .before .write .ensures .refusal); device = rw (← c .before .before .before .before .before .before .settings-of .ensures, ← c .before .before .before .before .before .active-of .ensures, ← c .before .before .before .before .write .ensures .model, ← c .before .before .before .before .before .before .before .enabled .ensures, ← c .before .before .enabled2 .ensures, c .before .if1 .taken, c .cleared .ensures) }
 
 returns-2 : tie.Need-returns-2
 unfolding deviceOf writeRefusalOf writeDevice engineAfter
-returns-2 c = record { refusal = c .before .before .before .write .ensures .refusal; device = rw (← c .before .before .before .write .ensures .model, ← c .before .before .before .before .enabled .ensures, ← c .before .enabled2 .ensures, c .if1 .left) }
+returns-2 c = record { refusal = rw (← c .before .before .before .before .before .settings-of .ensures, ← c .before .before .before .before .active-of .ensures) (c .before .before .before .write .ensures .refusal); device = rw (← c .before .before .before .before .before .settings-of .ensures, ← c .before .before .before .before .active-of .ensures, ← c .before .before .before .write .ensures .model, ← c .before .before .before .before .before .before .enabled .ensures, ← c .before .enabled2 .ensures, c .if1 .left) }
 
 pub write-spec : {M : Type 1} → statement M
 write-spec =
     tie.close
     (tie.spec
     enabled-requires
+    settings-of-requires
+    active-of-requires
     write-requires
     enabled-requires-2
     cleared-requires
