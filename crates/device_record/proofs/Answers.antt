@@ -7,7 +7,7 @@ use native.Mathlib.Omega.{arith}
 use lib.Dec.{eqb}
 use lib.ListN.{length, take}
 use lib.Seq.{take-length}
-use borrow.Author.Tests.{eqb-true}
+use borrow.Author.Tests.{eq-eqb, ne-eqb, eqb-true}
 use Rattle.registers.specs.Choose.{pick}
 use Rattle.registers.specs.Refusals.{refusalOf}
 use Rattle.registers.specs.declared.access.Answer.{Answer}
@@ -45,13 +45,13 @@ unfolding resetRefusal
 reset-passes b z = passes (eqb (length b) 128) 10 0 (omega arith) z .0
 
 module _ (b : List ℕ) (n : ℕ) (e : n ≡ resetRefusal b) where
-  pub reset-done : (b′ : List ℕ) (d : DeviceModel) → eqb n 0 ≡ true → d ≡ resetDevice → b′ ≡ encode d b → ResetCall b 0 b′
+  pub reset-done : (b′ : List ℕ) (d : DeviceModel) → n ≡ 0 → d ≡ resetDevice → b′ ≡ encode d b → ResetCall b n b′
   reset-done b′ d t h k =
-      let z : resetRefusal b ≡ 0 = sym e ∙ eqb-true n 0 t in
-      record { refusal = sym z; left = rw z (stored b b′ d resetDevice (reset-passes b z) k h) }
+      let z : resetRefusal b ≡ 0 = sym e ∙ t in
+      record { refusal = e; left = rw z (stored b b′ d resetDevice (reset-passes b z) k h) }
 
-  pub reset-refused : eqb n 0 ≡ false → ResetCall b n b
-  reset-refused f = record { refusal = e; left = rw (← e, f) }
+  pub reset-refused : (n ≡ 0 → ⊥) → ResetCall b n b
+  reset-refused f = record { refusal = e; left = rw (← e, ne-eqb n 0 f) }
 
 -- Accesses -------------------------------------------------------------------------------------------------------------
 
@@ -60,16 +60,16 @@ unfolding recordRefusal
 record-passes b z = passes (eqb (length b) 128) 10 (pick (not (soundBytes b)) 9 0) (omega arith) z .0
 
 module _ (b : List ℕ) (o n : ℕ) (e : n ≡ recordRefusal b) where
-  read-answer : (a : Answer) → eqb n 0 ≡ true → readAnswerOf (decode b) o ≡ a → readCall b o ≡ a
+  read-answer : (a : Answer) → n ≡ 0 → readAnswerOf (decode b) o ≡ a → readCall b o ≡ a
   unfolding readCall
-  read-answer a t h = rw (← e, t) h
+  read-answer a t h = rw (← e, eq-eqb n 0 t) h
 
-  module _ (s : Device) (r : Reading) (h : deviceOf s ≡ decode b) (g : Read (deviceOf s) o r) (t : eqb n 0 ≡ true) where
-    pub read-done : (b′ : List ℕ) (w : ℕ) → r .answer ≡ Word w → b′ ≡ encode (deviceOf (r .device)) b → ReadCall b o (Word w) b′
+  module _ (s : Device) (r : Reading) (h : deviceOf s ≡ decode b) (g : Read (deviceOf s) o r) (t : n ≡ 0) where
+    pub read-done : (b′ : List ℕ) (w : ℕ) → r .answer ≡ Word w → b′ ≡ encode (deviceOf (r .device)) b → ReadCall b o (r .answer) b′
     read-done b′ w q k =
         let a = read-answer (Word w) t (rw (← h) (sym (g .answer) ∙ q)) in
-        let l = record-passes b (sym e ∙ eqb-true n 0 t) in
-        record { answer = sym a; left = rw a (stored b b′ (deviceOf (r .device)) (readDevice (decode b) o) l k (rw (← h) (g .device))) }
+        let l = record-passes b (sym e ∙ t) in
+        record { answer = q ∙ sym a; left = rw a (stored b b′ (deviceOf (r .device)) (readDevice (decode b) o) l k (rw (← h) (g .device))) }
 
     pub read-refused : (k : ℕ) → r .answer ≡ Refused k → ReadCall b o (r .answer) b
     read-refused k q =
@@ -77,31 +77,31 @@ module _ (b : List ℕ) (o n : ℕ) (e : n ≡ recordRefusal b) where
         let a = read-answer (Refused k) t p in
         record { answer = q ∙ sym a; left = rw (a, refused-read (decode b) o k p) }
 
-  pub read-unserved : eqb n 0 ≡ false → ReadCall b o (Refused n) b
+  pub read-unserved : (n ≡ 0 → ⊥) → ReadCall b o (Refused n) b
   unfolding readCall
-  read-unserved f = record { answer = rw (← e, f); left = rw (← e, f, f) }
+  read-unserved f = let k = ne-eqb n 0 f in record { answer = rw (← e, k); left = rw (← e, k, k) }
 
 module _ (b : List ℕ) (o v n : ℕ) (e : n ≡ recordRefusal b) where
-  write-number : eqb n 0 ≡ true → writeCall b o v ≡ writeRefusalOf (decode b) o v
+  write-number : n ≡ 0 → writeCall b o v ≡ writeRefusalOf (decode b) o v
   unfolding writeCall
-  write-number t = rw (← e, t)
+  write-number t = rw (← e, eq-eqb n 0 t)
 
-  module _ (s : Device) (r : Written) (h : deviceOf s ≡ decode b) (g : Write (deviceOf s) o v r) (t : eqb n 0 ≡ true) where
+  module _ (s : Device) (r : Written) (h : deviceOf s ≡ decode b) (g : Write (deviceOf s) o v r) (t : n ≡ 0) where
     write-refusal : r .refusal ≡ writeCall b o v
     write-refusal = (rw h at (g .refusal)) ∙ sym (write-number t)
 
-    pub write-done : (b′ : List ℕ) → eqb (r .refusal) 0 ≡ true → b′ ≡ encode (deviceOf (r .device)) b → WriteCall b o v 0 b′
+    pub write-done : (b′ : List ℕ) → r .refusal ≡ 0 → b′ ≡ encode (deviceOf (r .device)) b → WriteCall b o v (r .refusal) b′
     write-done b′ q k =
-        let z : writeCall b o v ≡ 0 = sym write-refusal ∙ eqb-true (r .refusal) 0 q in
-        let l = record-passes b (sym e ∙ eqb-true n 0 t) in
-        record { refusal = sym z; left = rw z (stored b b′ (deviceOf (r .device)) (writeDevice (decode b) o v) l k (rw (← h) (g .device))) }
+        let z : writeCall b o v ≡ 0 = sym write-refusal ∙ q in
+        let l = record-passes b (sym e ∙ t) in
+        record { refusal = write-refusal; left = rw z (stored b b′ (deviceOf (r .device)) (writeDevice (decode b) o v) l k (rw (← h) (g .device))) }
 
-    pub write-refused : eqb (r .refusal) 0 ≡ false → WriteCall b o v (r .refusal) b
-    write-refused q = record { refusal = write-refusal; left = rw (← write-refusal, q) }
+    pub write-refused : (r .refusal ≡ 0 → ⊥) → WriteCall b o v (r .refusal) b
+    write-refused q = record { refusal = write-refusal; left = rw (← write-refusal, ne-eqb (r .refusal) 0 q) }
 
-  pub write-unserved : eqb n 0 ≡ false → WriteCall b o v n b
+  pub write-unserved : (n ≡ 0 → ⊥) → WriteCall b o v n b
   unfolding writeCall
-  write-unserved f = record { refusal = rw (← e, f); left = rw (← e, f, f) }
+  write-unserved f = let k = ne-eqb n 0 f in record { refusal = rw (← e, k); left = rw (← e, k, k) }
 
 -- Runs -----------------------------------------------------------------------------------------------------------------
 
@@ -113,11 +113,11 @@ run-passes b i o z =
     (p .0, eqb-true (length i) (length o) (q .0))
 
 module _ (stop : Stop) (b i o : List ℕ) (n : ℕ) (e : n ≡ runRefusal b i o) where
-  pub run-done : (s : Device) (r : Ran) → deviceOf s ≡ decode b → (b′ o′ : List ℕ) → eqb n 0 ≡ true → b′ ≡ encode (deviceOf (r .device)) b
+  pub run-done : (s : Device) (r : Ran) → deviceOf s ≡ decode b → (b′ o′ : List ℕ) → n ≡ 0 → b′ ≡ encode (deviceOf (r .device)) b
       → RunUntil (stopsOn stop) (deviceOf s) i o r o′ → RunCall stop b i o (record { refusal = 0; count = r .count }) b′ o′
   unfolding runCount
   run-done s r h b′ o′ t k g =
-      let z : runRefusal b i o ≡ 0 = sym e ∙ eqb-true n 0 t in
+      let z : runRefusal b i o ≡ 0 = sym e ∙ t in
       let p = run-passes b i o z in
       let a = served-all i o (p .1) in
       record {
@@ -127,9 +127,9 @@ module _ (stop : Stop) (b i o : List ℕ) (n : ℕ) (e : n ≡ runRefusal b i o)
         output = rw z (g .output ∙ rw (a, h));
       }
 
-  pub run-unserved : eqb n 0 ≡ false → RunCall stop b i o (record { refusal = n; count = 0 }) b o
+  pub run-unserved : (n ≡ 0 → ⊥) → RunCall stop b i o (record { refusal = n; count = 0 }) b o
   unfolding runCount
-  run-unserved f = record { refusal = e; count = rw (← e, f); left = rw (← e, f); output = rw (← e, f) }
+  run-unserved f = let k = ne-eqb n 0 f in record { refusal = e; count = rw (← e, k); left = rw (← e, k); output = rw (← e, k) }
 
 -- A run without a stopping rule runs a cycle for each input byte.
 module _ (b i o : List ℕ) where
@@ -159,18 +159,18 @@ either true false k r h e = absurd (omega arith)
 either false t k r h e = absurd (omega arith)
 
 module _ (one two : List ℕ) (n : ℕ) (e : n ≡ pairRefusal one two) where
-  pub pair-done : (cycles : ℕ) (one′ two′ : List ℕ) (p : PairModel) (w : Wired) → eqb n 0 ≡ true → pairOf w ≡ pairRun cycles p → p ≡ record { first = decode one; second = decode two }
-      → one′ ≡ encode (deviceOf (w .first)) one → two′ ≡ encode (deviceOf (w .second)) two → PairCall one two cycles 0 one′ two′
+  pub pair-done : (cycles : ℕ) (one′ two′ : List ℕ) (p : PairModel) (w : Wired) → n ≡ 0 → pairOf w ≡ pairRun cycles p → p ≡ record { first = decode one; second = decode two }
+      → one′ ≡ encode (deviceOf (w .first)) one → two′ ≡ encode (deviceOf (w .second)) two → PairCall one two cycles n one′ two′
   unfolding pairRefusal pairAfter pairOf
   pair-done cycles one′ two′ p w t h s j k =
-      let z : pairRefusal one two ≡ 0 = sym e ∙ eqb-true n 0 t in
+      let z : pairRefusal one two ≡ 0 = sym e ∙ t in
       let l = either (eqb (length one) 128) (eqb (length two) 128) 10 (pick (not (soundBytes one) || not (soundBytes two)) 9 0) (omega arith) z in
       let g : pairOf w ≡ pairAfter one two cycles = h ∙ ap (pairRun cycles) s in
       record {
-        refusal = sym z;
+        refusal = e;
         first = stored one one′ (deviceOf (w .first)) (pairAfter one two cycles .first) (l .0) j (ap (λ (x : PairModel). x .first) g) ∙ sym (ap (λ (r : ℕ). pick (eqb r 0) (encoded (pairAfter one two cycles .first)) one) z);
         second = stored two two′ (deviceOf (w .second)) (pairAfter one two cycles .second) (l .1) k (ap (λ (x : PairModel). x .second) g) ∙ sym (ap (λ (r : ℕ). pick (eqb r 0) (encoded (pairAfter one two cycles .second)) two) z);
       }
 
-  pub pair-refused : (cycles : ℕ) → eqb n 0 ≡ false → PairCall one two cycles n one two
-  pair-refused cycles f = record { refusal = e; first = rw (← e, f); second = rw (← e, f) }
+  pub pair-refused : (cycles : ℕ) → (n ≡ 0 → ⊥) → PairCall one two cycles n one two
+  pair-refused cycles f = let k = ne-eqb n 0 f in record { refusal = e; first = rw (← e, k); second = rw (← e, k) }

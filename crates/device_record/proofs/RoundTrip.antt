@@ -50,18 +50,6 @@ eqList-length xs ys h = go (eqList xs ys) refl
 
 -- lengths
 
-pub length-registers : (f : Fields) → length (registerBytes f) ≡ 12
-unfolding registerBytes
-length-registers f = refl
-
-pub length-engine : (e : Engine) → length (engineBytes e) ≡ 12
-unfolding engineBytes
-length-engine e = refl
-
-pub length-levels : (h : History) (l : Lines) → length (levelBytes h l) ≡ 4
-unfolding levelBytes
-length-levels h l = refl
-
 pub length-state : (f : Fields) (e : Engine) (h : History) (l : Lines) → length (stateBytes f e h l) ≡ 32
 unfolding stateBytes registerBytes engineBytes levelBytes countBytes
 length-state f e h l = refl

@@ -6,32 +6,29 @@ use mathlib.Core.Bool.{Bool, true, false, _&&_}
 use native.Mathlib.Omega.{arith}
 use native.Mathlib.Numerals.{add-one}
 use lib.Dec.{leb, eqb}
-use borrow.Author.Tests.{eq-eqb, ne-eqb, le-leb, lt-leb}
+use borrow.Author.Tests.{eq-eqb, ne-eqb}
 use lib.ListN.{length, getD, take, drop, set, length-set, drop-of-length-le}
 use lib.Seq.{drop-cons, take-suc, set-at, length-take-le, take-length, drop-length}
 use Rattle.registers.specs.Choose.{pick}
 use Rattle.serial.specs.Lines.{pinsOf, byteOf}
 use Rattle.serial.specs.Cycle.{DeviceModel, deviceOf, cycleOf}
 use Rattle.device_record.specs.Run.{afterBytes, outputs, inputsFit, stopsOn, countUntil, written, served, RunUntil}
+use Rattle.device_record.proofs.Bytes.{and-assoc, and-true}
 use Rattle.serial.specs.declared.Device.{Device}
 use Rattle.device_record.specs.declared.run.Ran.{Ran}
 use Rattle.device_record.specs.declared.run.Stop.the-variants.{Never}
 
 -- Input bytes ----------------------------------------------------------------------------------------------------------
 
--- Every byte before i fits.
-module _ (ins : List ℕ) (i : ℕ) (k : inputsFit ins ≡ inputsFit (drop i ins)) where
-  pub fit-turn : i < length ins → getD ins i 0 ≤ 7 → inputsFit ins ≡ inputsFit (drop (i + 1) ins)
+-- `all` says whether every byte before i fits.
+module _ (ins : List ℕ) (all : Bool) (i : ℕ) (k : inputsFit ins ≡ all && inputsFit (drop i ins)) where
+  pub fit-turn : i < length ins → inputsFit ins ≡ (all && leb (getD ins i 0) 7) && inputsFit (drop (i + 1) ins)
   unfolding inputsFit
-  fit-turn h e = k ∙ rw (add-one, drop-cons ins i 0 h, le-leb (getD ins i 0) 7 e)
+  fit-turn h = k ∙ rw (add-one, drop-cons ins i 0 h) (sym (and-assoc all (leb (getD ins i 0) 7) (inputsFit (drop (suc i) ins))))
 
-  pub fit-not : i < length ins → 7 < getD ins i 0 → false ≡ inputsFit ins
+  pub fit-end : length ins ≤ i → all ≡ inputsFit ins
   unfolding inputsFit
-  fit-not h e = sym (k ∙ rw (drop-cons ins i 0 h, lt-leb (getD ins i 0) 7 e))
-
-  pub fit-end : length ins ≤ i → true ≡ inputsFit ins
-  unfolding inputsFit
-  fit-end h = sym (k ∙ rw (drop-of-length-le ins {i = i} h))
+  fit-end h = sym (k ∙ rw (drop-of-length-le ins {i = i} h) (and-true all))
 
 -- Cycles ---------------------------------------------------------------------------------------------------------------
 

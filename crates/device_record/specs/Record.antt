@@ -31,6 +31,12 @@ low x = x % 256
 abbrev pub high : ℕ → ℕ
 high x = x / 256 % 256
 
+-- A word of two bytes, which are then its bytes.
+pub record WordOf (lo hi word : ℕ) : Type 0 where
+  pub joined : word ≡ lo + 256 * hi
+  pub first : low word ≡ lo
+  pub second : high word ≡ hi
+
 -- A pin byte: CLK 1, FSS 2, RXD 4.
 unfoldable pub pinByte : Pins → ℕ
 pinByte p = pick (p .clk) 1 0 + pick (p .fss) 2 0 + pick (p .rxd) 4 0

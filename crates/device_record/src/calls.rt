@@ -29,51 +29,51 @@ pub struct RunAnswer {
 fn reset_refusal(bytes: &[u8]) -> u8
     ensures { λ r. ⌜ r ≡ resetRefusal (now (bytes .entry)) ⌝ }
 {
-    let wrong = bytes.len() != RECORD_LENGTH;
-    if wrong { WRONG_LENGTH } else { DONE }
+    if bytes.len() == RECORD_LENGTH {
+        DONE
+    } else {
+        WRONG_LENGTH
+    }
 }
 
 fn record_refusal(bytes: &[u8]) -> u8
     ensures { λ r. ⌜ r ≡ recordRefusal (now (bytes .entry)) ⌝ }
 {
-    let wrong = bytes.len() != RECORD_LENGTH;
-    if wrong {
+    if bytes.len() != RECORD_LENGTH {
         return WRONG_LENGTH;
     }
-    let unsound = !crate::record::sound_bytes(bytes);
-    if unsound { UNSOUND } else { DONE }
+    if crate::record::sound_bytes(bytes) {
+        DONE
+    } else {
+        UNSOUND
+    }
 }
 
 fn run_refusal(bytes: &[u8], input: &[u8], output: &[u8]) -> u8
     ensures { λ r. ⌜ r ≡ runRefusal (now (bytes .entry)) (now (input .entry)) (now (output .entry)) ⌝ }
 {
-    let wrong = bytes.len() != RECORD_LENGTH;
-    if wrong {
+    if bytes.len() != RECORD_LENGTH {
         return WRONG_LENGTH;
     }
-    let differ = input.len() != output.len();
-    if differ {
+    if input.len() != output.len() {
         return LINES_DIFFER;
     }
-    let bad = !crate::run::inputs_fit(input);
-    if bad {
-        return BAD_INPUT;
+    if crate::run::inputs_fit(input) {
+        record_refusal(bytes)
+    } else {
+        BAD_INPUT
     }
-    let unsound = !crate::record::sound_bytes(bytes);
-    if unsound { UNSOUND } else { DONE }
 }
 
 fn pair_refusal(first: &[u8], second: &[u8]) -> u8
     ensures { λ r. ⌜ r ≡ pairRefusal (now (first .entry)) (now (second .entry)) ⌝ }
 {
-    let wrong = (first.len() != RECORD_LENGTH) | (second.len() != RECORD_LENGTH);
-    if wrong {
+    if (first.len() != RECORD_LENGTH) | (second.len() != RECORD_LENGTH) {
         return WRONG_LENGTH;
     }
     let one = crate::record::sound_bytes(first);
     let two = crate::record::sound_bytes(second);
-    let unsound = !one | !two;
-    if unsound { UNSOUND } else { DONE }
+    if !one | !two { UNSOUND } else { DONE }
 }
 
 // An answer's refusal number.
@@ -91,10 +91,8 @@ pub fn reset_call(bytes: &mut [u8]) -> u8
     ensures { λ r. ⌜ ResetCall (now (bytes .entry)) r (now (bytes .exit)) ⌝ }
 {
     let refusal = reset_refusal(bytes);
-    let done = refusal == DONE;
-    if done {
+    if refusal == DONE {
         crate::record::encode(serial::reset_device(), bytes);
-        return DONE;
     }
     refusal
 }
@@ -104,18 +102,16 @@ pub fn read_call(bytes: &mut [u8], offset: u32) -> Answer
     ensures { λ r. ⌜ ReadCall (now (bytes .entry)) offset r (now (bytes .exit)) ⌝ }
 {
     let refusal = record_refusal(bytes);
-    let fine = refusal == DONE;
-    if fine {
-        let reading = serial::access::read(crate::record::decode(bytes), offset);
-        let answer = reading.answer;
-        let Answer::Word(word) = answer else {
-            return answer;
-        };
-        let device = reading.device;
-        crate::record::encode(device, bytes);
-        return Answer::Word(word);
+    if refusal != DONE {
+        return Answer::Refused(refusal);
     }
-    Answer::Refused(refusal)
+    let reading = serial::access::read(crate::record::decode(bytes), offset);
+    let answer = reading.answer;
+    let Answer::Word(_) = answer else {
+        return answer;
+    };
+    crate::record::encode(reading.device, bytes);
+    answer
 }
 
 // Writes a register.
@@ -123,19 +119,14 @@ pub fn write_call(bytes: &mut [u8], offset: u32, value: u32) -> u8
     ensures { λ r. ⌜ WriteCall (now (bytes .entry)) offset value r (now (bytes .exit)) ⌝ }
 {
     let refusal = record_refusal(bytes);
-    let fine = refusal == DONE;
-    if fine {
-        let written = serial::access::write(crate::record::decode(bytes), offset, value);
-        let number = written.refusal;
-        let done = number == 0;
-        if done {
-            let device = written.device;
-            crate::record::encode(device, bytes);
-            return DONE;
-        }
-        return number;
+    if refusal != DONE {
+        return refusal;
     }
-    refusal
+    let written = serial::access::write(crate::record::decode(bytes), offset, value);
+    if written.refusal == DONE {
+        crate::record::encode(written.device, bytes);
+    }
+    written.refusal
 }
 
 // Runs cycles up to a stopping rule, and counts them.
@@ -143,12 +134,9 @@ pub fn run_call(stop: Stop, bytes: &mut [u8], input: &[u8], output: &mut [u8]) -
     ensures { λ r. ⌜ RunCall stop (now (bytes .entry)) (now (input .entry)) (now (output .entry)) r (now (bytes .exit)) (now (output .exit)) ⌝ }
 {
     let refusal = run_refusal(bytes, input, output);
-    let done = refusal == DONE;
-    if done {
-        let start = crate::record::decode(bytes);
-        let ran = crate::run::run_until(stop, start, input, output);
-        let device = ran.device;
-        crate::record::encode(device, bytes);
+    if refusal == DONE {
+        let ran = crate::run::run_until(stop, crate::record::decode(bytes), input, output);
+        crate::record::encode(ran.device, bytes);
         return RunAnswer {
             refusal: DONE,
             count: ran.count,
@@ -162,20 +150,14 @@ pub fn pair_call(first: &mut [u8], second: &mut [u8], cycles: u64) -> u8
     ensures { λ r. ⌜ PairCall (now (first .entry)) (now (second .entry)) cycles r (now (first .exit)) (now (second .exit)) ⌝ }
 {
     let refusal = pair_refusal(first, second);
-    let done = refusal == DONE;
-    if done {
-        let one = crate::record::decode(first);
-        let two = crate::record::decode(second);
+    if refusal == DONE {
         let start = Wired {
-            first: one,
-            second: two,
+            first: crate::record::decode(first),
+            second: crate::record::decode(second),
         };
         let end = serial::pair::pair_run(start, cycles);
-        let after_one = end.first;
-        let after_two = end.second;
-        crate::record::encode(after_one, first);
-        crate::record::encode(after_two, second);
-        return DONE;
+        crate::record::encode(end.first, first);
+        crate::record::encode(end.second, second);
     }
     refusal
 }

@@ -1,9 +1,9 @@
 // The device record: a device as 128 bytes, and bytes as a device.
 ghost use mathlib.Core.Path.{_≡_};
-ghost use Prim.Native.Nat.{_+_, _≤_, _<_};
+ghost use Prim.Native.Nat.{_+_, _*_, _≤_, _<_};
 ghost use lib.ListN.{length, getD};
 ghost use Rattle.serial.specs.Cycle.{deviceOf};
-ghost use Rattle.device_record.specs.Record.{recordLength, byteAt, wordAt, longAt, flagAt, wordsAt, linesFrom, fieldsAt, engineAt, historyAt, decode, pinByte, registerBytes, engineBytes, levelBytes, wordBytes, stateBytes, queueBytes, PutAt, encode, eqList, soundBytes};
+ghost use Rattle.device_record.specs.Record.{recordLength, byteAt, WordOf, wordAt, longAt, flagAt, wordsAt, linesFrom, fieldsAt, engineAt, historyAt, decode, pinByte, stateBytes, wordBytes, PutAt, encode, eqList, soundBytes};
 use registers::Control;
 use registers::Masks;
 use registers::Timeout;
@@ -27,13 +27,18 @@ fn byte_at(bytes: &[u8], i: usize) -> u8
     if i < bytes.len() { bytes[i] } else { 0 }
 }
 
+// A word of two bytes, the low one first.
+fn word_of(lo: u8, hi: u8) -> u16
+    ensures { λ r. ⌜ WordOf lo hi r ⌝ }
+{
+    lo as u16 + 256 * (hi as u16)
+}
+
 fn word_at(bytes: &[u8], i: usize) -> u16
     requires { ⌜ i < 128 ⌝ }
     ensures { λ r. ⌜ r ≡ wordAt (now (bytes .entry)) i ⌝ }
 {
-    let lo = byte_at(bytes, i);
-    let hi = byte_at(bytes, i + 1);
-    lo as u16 + 256 * (hi as u16)
+    word_of(byte_at(bytes, i), byte_at(bytes, i + 1))
 }
 
 fn long_at(bytes: &[u8], i: usize) -> u32
@@ -56,16 +61,13 @@ fn words_at(bytes: &[u8], i: usize) -> [u16; 8]
     requires { ⌜ i < 114 ⌝ }
     ensures { λ r. ⌜ r ≡ wordsAt (now (bytes .entry)) i ⌝ }
 {
-    [
-        word_at(bytes, i),
-        word_at(bytes, i + 2),
-        word_at(bytes, i + 4),
-        word_at(bytes, i + 6),
-        word_at(bytes, i + 8),
-        word_at(bytes, i + 10),
-        word_at(bytes, i + 12),
-        word_at(bytes, i + 14),
-    ]
+    let mut words = [0u16; 8];
+    let mut k: usize = 0;
+    while k < 8 {
+        words[k] = word_at(bytes, i + 2 * k);
+        k += 1;
+    }
+    words
 }
 
 // A line byte: CLK 1, FSS 2, TXD 4, nSSPOE 8.
@@ -163,124 +165,43 @@ fn pin_byte(p: Pins) -> u8
         + serial::lines::value_of(p.rxd, 4)
 }
 
-fn register_bytes(f: Fields) -> [u8; 12]
-    ensures { λ b. ⌜ b ≡ registerBytes f ⌝ }
+// Bytes 0 to 31, as words.
+fn state_words(f: Fields, d: Device) -> [u16; 16]
+    ensures { λ ws. ⌜ wordBytes ws ≡ stateBytes f (d .engine) (d .pins) (d .lines) ⌝ }
 {
     let n = f.timeout.count.0;
     [
-        (f.control.cr0 % 256) as u8,
-        (f.control.cr0 / 256 % 256) as u8,
-        f.control.cr1,
-        f.control.cpsr,
-        f.masks.imsc,
-        f.masks.dmacr,
-        f.ror as u8,
-        f.timeout.rt as u8,
-        (n % 256) as u8,
-        (n / 256 % 256) as u8,
-        (n / 0x10000 % 256) as u8,
-        (n / 0x10000 / 256 % 256) as u8,
+        f.control.cr0,
+        word_of(f.control.cr1, f.control.cpsr),
+        word_of(f.masks.imsc, f.masks.dmacr),
+        word_of(f.ror as u8, f.timeout.rt as u8),
+        (n % 0x10000) as u16,
+        (n / 0x10000) as u16,
+        word_of(d.engine.frame as u8, d.engine.selected as u8),
+        word_of(d.engine.mark as u8, d.engine.shift.captured),
+        word_of((d.engine.slot.0 % 256) as u8, d.engine.shift.level as u8),
+        (d.engine.elapsed.0 % 0x10000) as u16,
+        d.engine.shift.sending,
+        d.engine.shift.receiving,
+        word_of(pin_byte(d.pins.newest), pin_byte(d.pins.middle)),
+        word_of(pin_byte(d.pins.oldest), serial::lines::byte_of(d.lines)),
+        word_of(f.waiting, f.held),
+        0,
     ]
 }
 
-fn engine_bytes(e: Engine) -> [u8; 12]
-    ensures { λ b. ⌜ b ≡ engineBytes e ⌝ }
-{
-    let n = e.elapsed.0;
-    [
-        e.frame as u8,
-        e.selected as u8,
-        e.mark as u8,
-        e.shift.captured,
-        (e.slot.0 % 256) as u8,
-        e.shift.level as u8,
-        (n % 256) as u8,
-        (n / 256 % 256) as u8,
-        (e.shift.sending % 256) as u8,
-        (e.shift.sending / 256 % 256) as u8,
-        (e.shift.receiving % 256) as u8,
-        (e.shift.receiving / 256 % 256) as u8,
-    ]
-}
-
-fn level_bytes(h: History, l: Lines) -> [u8; 4]
-    ensures { λ b. ⌜ b ≡ levelBytes h l ⌝ }
-{
-    let newest = h.newest;
-    let middle = h.middle;
-    let oldest = h.oldest;
-    [
-        pin_byte(newest),
-        pin_byte(middle),
-        pin_byte(oldest),
-        serial::lines::byte_of(l),
-    ]
-}
-
-// A queue's eight places.
-fn word_bytes(ws: [u16; 8]) -> [u8; 16]
-    ensures { λ b. ⌜ b ≡ wordBytes ws ⌝ }
-{
-    [
-        (ws[0] % 256) as u8,
-        (ws[0] / 256 % 256) as u8,
-        (ws[1] % 256) as u8,
-        (ws[1] / 256 % 256) as u8,
-        (ws[2] % 256) as u8,
-        (ws[2] / 256 % 256) as u8,
-        (ws[3] % 256) as u8,
-        (ws[3] / 256 % 256) as u8,
-        (ws[4] % 256) as u8,
-        (ws[4] / 256 % 256) as u8,
-        (ws[5] % 256) as u8,
-        (ws[5] / 256 % 256) as u8,
-        (ws[6] % 256) as u8,
-        (ws[6] / 256 % 256) as u8,
-        (ws[7] % 256) as u8,
-        (ws[7] / 256 % 256) as u8,
-    ]
-}
-
-// Writes a part of a record from byte `at` on.
-fn put_at(bytes: &mut [u8], at: usize, part: &[u8])
-    requires { ⌜ at + length (now part) ≤ length (now bytes) ⌝ }
-    ensures { λ _. ⌜ PutAt (now (bytes .entry)) at (now (part .entry)) (now (bytes .exit)) ⌝ }
+// Writes words into a record from byte `at` on.
+fn put_words(bytes: &mut [u8], at: usize, words: &[u16])
+    requires { ⌜ at + 2 * length (now words) ≤ length (now bytes) ⌝ }
+    ensures { λ _. ⌜ PutAt (now (bytes .entry)) at (wordBytes (now (words .entry))) (now (bytes .exit)) ⌝ }
 {
     let mut i: usize = 0;
-    while i < part.len() {
-        bytes[at + i] = part[i];
+    while i < words.len() {
+        let word = words[i];
+        bytes[at + 2 * i] = (word % 256) as u8;
+        bytes[at + 2 * i + 1] = (word / 256 % 256) as u8;
         i += 1;
     }
-}
-
-// Bytes 0 to 31.
-fn put_state(bytes: &mut [u8], fields: Fields, d: Device)
-    requires { ⌜ length (now bytes) ≡ recordLength ⌝ }
-    ensures { λ _. ⌜ PutAt (now (bytes .entry)) 0 (stateBytes fields (d .engine) (d .pins) (d .lines)) (now (bytes .exit)) ⌝ }
-{
-    let registers = register_bytes(fields);
-    let engine = engine_bytes(d.engine);
-    let levels = level_bytes(d.pins, d.lines);
-    let counts = [fields.waiting, fields.held, 0, 0];
-    put_at(bytes, 0, &registers);
-    put_at(bytes, 12, &engine);
-    put_at(bytes, 24, &levels);
-    put_at(bytes, 28, &counts);
-}
-
-// Bytes 32 to 127.
-fn put_queues(bytes: &mut [u8], fields: Fields)
-    requires { ⌜ length (now bytes) ≡ recordLength ⌝ }
-    ensures { λ _. ⌜ PutAt (now (bytes .entry)) 32 (queueBytes fields) (now (bytes .exit)) ⌝ }
-{
-    let tx = fields.tx;
-    let rx = fields.rx;
-    let sending = word_bytes(tx);
-    let received = word_bytes(rx);
-    let spare = [0u8; 64];
-    put_at(bytes, 32, &sending);
-    put_at(bytes, 48, &received);
-    put_at(bytes, 64, &spare);
 }
 
 // Writes a device into a record; bytes of another length stay.
@@ -289,8 +210,12 @@ pub fn encode(d: Device, bytes: &mut [u8])
 {
     if bytes.len() == RECORD_LENGTH {
         let fields = registers::fields::fields_of(d.registers);
-        put_state(bytes, fields, d);
-        put_queues(bytes, fields);
+        let state = state_words(fields, d);
+        let spare = [0u16; 32];
+        put_words(bytes, 0, &state);
+        put_words(bytes, 32, &fields.tx);
+        put_words(bytes, 48, &fields.rx);
+        put_words(bytes, 64, &spare);
     }
 }
 
@@ -301,16 +226,14 @@ fn eq_list(a: &[u8], b: &[u8]) -> bool
     if a.len() != b.len() {
         return false;
     }
+    // no early end: the loop then takes many bytes at once
+    let mut all = true;
     let mut i: usize = 0;
     while i < a.len() {
-        let p = a[i];
-        let q = b[i];
-        if p != q {
-            return false;
-        }
+        all = all & (a[i] == b[i]);
         i += 1;
     }
-    true
+    all
 }
 
 // Whether bytes are a sound record.

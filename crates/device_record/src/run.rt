@@ -32,15 +32,14 @@ pub struct Ran {
 pub fn inputs_fit(input: &[u8]) -> bool
     ensures { λ r. ⌜ r ≡ inputsFit (now (input .entry)) ⌝ }
 {
+    // no early end: the loop then takes many bytes at once
+    let mut all = true;
     let mut at: usize = 0;
     while at < input.len() {
-        let byte = input[at];
-        if HIGHEST_INPUT < byte {
-            return false;
-        }
+        all = all & (input[at] <= HIGHEST_INPUT);
         at += 1;
     }
-    true
+    all
 }
 
 // BSY, as a read of SR gives it.

@@ -31,7 +31,7 @@ same-length-2 c = search needs
 
 returns : tie.Need-returns
 unfolding pairOf
-returns c = pair-done _ _ _ (c .before .before .before .before .before .before .before .before .before .before .before .before .before .before .before .before .pair-refusal .ensures) (c .before .before .before .before .before .before .before .before .before .before .before .before .before .before .before .before .before .before .before .before .before .args .cycles) _ _ _ _ (c .before .before .before .before .before .before .before .before .before .before .before .before .before .before .before .if1 .taken) (c .before .before .before .before .before .before .before .before .before .before .pair-run .ensures) (ap₂ (λ x y. record { first = x; second = y }) (c .before .before .before .before .before .before .before .before .before .before .before .before .before .decode .ensures) (c .before .before .before .before .before .before .before .before .before .before .before .decode2 .ensures)) (c .before .before .before .before .before .before .encode .ensures) (c .before .before .encode2 .ensures)
+returns c = pair-done _ _ _ (c .before .before .before .before .before .before .before .before .before .before .before .before .before .before .pair-refusal .ensures) (c .before .before .before .before .before .before .before .before .before .before .before .before .before .before .before .before .before .before .before .args .cycles) _ _ _ _ (c .before .before .before .before .before .before .before .before .before .before .before .before .before .if1 .taken) (c .before .before .before .before .before .before .before .before .pair-run .ensures) (ap₂ (λ x y. record { first = x; second = y }) (c .before .before .before .before .before .before .before .before .before .before .before .decode .ensures) (c .before .before .before .before .before .before .before .before .before .decode2 .ensures)) (c .before .before .before .before .before .before .encode .ensures) (c .before .before .encode2 .ensures)
 
 same-length-3 : tie.Need-same-length-3
 same-length-3 c = search needs

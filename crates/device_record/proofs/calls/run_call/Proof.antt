@@ -22,7 +22,7 @@ same-length-2 : tie.Need-same-length-2
 same-length-2 c = search needs
 
 returns : tie.Need-returns
-returns c = run-done _ _ _ _ _ (c .before .before .before .before .before .before .before .before .before .before .before .before .run-refusal .ensures) _ _ (c .before .before .before .before .before .before .before .before .before .decode .ensures) _ _ (c .before .before .before .before .before .before .before .before .before .before .before .if1 .taken) (c .before .before .encode .ensures) (c .before .before .before .before .before .before .before .run-until .ensures)
+returns c = run-done _ _ _ _ _ (c .before .before .before .before .before .before .before .before .before .before .before .run-refusal .ensures) _ _ (c .before .before .before .before .before .before .before .before .decode .ensures) _ _ (c .before .before .before .before .before .before .before .before .before .before .if1 .taken) (c .before .before .encode .ensures) (c .before .before .before .before .before .before .run-until .ensures)
 
 same-length-3 : tie.Need-same-length-3
 same-length-3 c = search needs

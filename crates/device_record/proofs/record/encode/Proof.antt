@@ -10,18 +10,33 @@ use Rattle.device_record.proofs.record.encode.Tie as tie
 fields-of-requires : tie.Need-fields-of-requires
 fields-of-requires c κs = search needs
 
-put-state-requires : tie.Need-put-state-requires
-put-state-requires c κs = search needs
+state-words-requires : tie.Need-state-words-requires
+state-words-requires c κs = search needs
 
-put-queues-requires : tie.Need-put-queues-requires
-put-queues-requires c κs = search needs
+slice-aggregate-put-words : tie.Need-slice-aggregate-put-words
+slice-aggregate-put-words c = search needs
+
+put-words-requires : tie.Need-put-words-requires
+put-words-requires c κs = search needs
+
+put-words-requires-2 : tie.Need-put-words-requires-2
+put-words-requires-2 c κs = search needs
+
+put-words-requires-3 : tie.Need-put-words-requires-3
+put-words-requires-3 c κs = search needs
+
+slice-aggregate-put-words-2 : tie.Need-slice-aggregate-put-words-2
+slice-aggregate-put-words-2 c = search needs
+
+put-words-requires-4 : tie.Need-put-words-requires-4
+put-words-requires-4 c κs = search needs
 
 same-length : tie.Need-same-length
 same-length c = search needs
 
 returns : tie.Need-returns
 unfolding encode encoded deviceOf
-returns c = rw (eq-eqb _ _ (c .before .before .before .before .before .before .before .before .before .if1 .taken)) (put-record (modelOf (c .before .before .before .before .before .before .before .before .before .before .before .args .d .registers)) (c .before .before .before .before .before .before .before .before .before .before .before .args .d .engine) (c .before .before .before .before .before .before .before .before .before .before .before .args .d .pins) (c .before .before .before .before .before .before .before .before .before .before .before .args .d .lines) (c .before .before .before .before .before .before .put-state .ensures) (c .before .before .put-queues .ensures) (c .before .before .before .before .before .before .before .before .fields-of .ensures) (c .before .before .before .before .before .before .before .before .before .if1 .taken))
+returns c = rw (eq-eqb _ _ (c .before .before .before .before .before .before .before .before .before .before .before .before .before .before .before .before .before .before .before .before .before .before .before .before .before .before .if1 .taken)) (put-record _ (modelOf (c .before .before .before .before .before .before .before .before .before .before .before .before .before .before .before .before .before .before .before .before .before .before .before .before .before .before .before .before .args .d .registers)) (c .before .before .before .before .before .before .before .before .before .before .before .before .before .before .before .before .before .before .before .before .before .before .before .before .before .before .before .before .args .d .engine) (c .before .before .before .before .before .before .before .before .before .before .before .before .before .before .before .before .before .before .before .before .before .before .before .before .before .before .before .before .args .d .pins) (c .before .before .before .before .before .before .before .before .before .before .before .before .before .before .before .before .before .before .before .before .before .before .before .before .before .before .before .before .args .d .lines) (c .before .before .before .before .before .before .before .before .before .before .before .before .before .before .before .before .before .before .before .before .before .before .before .before .state-words .ensures) (c .before .before .before .before .before .before .before .before .before .before .before .before .before .before .before .before .before .before .before .before .before .before .before .before .before .fields-of .ensures) (c .before .before .before .before .before .before .before .before .before .before .before .before .before .before .before .before .before .before .before .before .before .put-words .ensures) (c .before .before .before .before .before .before .before .before .before .before .before .before .before .before .put-words2 .ensures) (c .before .before .before .before .before .before .before .put-words3 .ensures) (c .before .before .put-words4 .ensures) (c .before .before .before .before .before .before .before .before .before .before .before .before .before .before .before .before .before .before .before .before .before .before .before .before .before .before .if1 .taken) (search needs) (search needs))
 
 returns-2 : tie.Need-returns-2
 unfolding encode
@@ -32,8 +47,13 @@ encode-spec =
     tie.close
     (tie.spec
     fields-of-requires
-    put-state-requires
-    put-queues-requires
+    state-words-requires
+    slice-aggregate-put-words
+    put-words-requires
+    put-words-requires-2
+    put-words-requires-3
+    slice-aggregate-put-words-2
+    put-words-requires-4
     same-length
     returns
     returns-2)

@@ -12,31 +12,13 @@ add-byte-at c = search needs
 byte-at-requires-2 : tie.Need-byte-at-requires-2
 byte-at-requires-2 c κs = search needs
 
-cast-result : tie.Need-cast-result
-cast-result c = search needs
-
-cast-result-2 : tie.Need-cast-result-2
-cast-result-2 c = search needs
-
-mul-result : tie.Need-mul-result
-mul-result c = search needs
-
-add-result : tie.Need-add-result
-add-result c = search needs
+word-of-requires : tie.Need-word-of-requires
+word-of-requires c κs = search needs
 
 returns : tie.Need-returns
 unfolding wordAt
-returns c = rw (c .before .byte-at .ensures, c .byte-at2 .ensures)
+returns c = rw (c .word-of .ensures .joined, c .before .before .byte-at .ensures, c .before .byte-at2 .ensures)
 
 pub word-at-spec : {M : Type 1} → statement M
 word-at-spec =
-    tie.close
-    (tie.spec
-    byte-at-requires
-    add-byte-at
-    byte-at-requires-2
-    cast-result
-    cast-result-2
-    mul-result
-    add-result
-    returns)
+    tie.close (tie.spec byte-at-requires add-byte-at byte-at-requires-2 word-of-requires returns)

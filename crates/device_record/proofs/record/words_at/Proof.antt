@@ -1,74 +1,59 @@
-use Rattle.device_record.specs.Record.{wordsAt}
+use Prim.Native.Nat.{_-_}
+use native.Mathlib.Omega.{arith}
 use borrow.Author.Needs.{needs}
+use Rattle.device_record.proofs.Bytes.{Reading, read-start, read-turn, read-end}
 use Rattle.device_record.proofs.record.words_at.Statement.{statement}
 use Rattle.device_record.proofs.record.words_at.Tie as tie
 
-word-at-requires : tie.Need-word-at-requires
-word-at-requires c κs = search needs
+abbrev Inv-loop : tie.InvT-loop
+Inv-loop bytes i words₀ k₀ words k = Reading bytes i words k
 
-add-word-at : tie.Need-add-word-at
-add-word-at c = search needs
+abbrev μ-loop : tie.MeasureT-loop
+μ-loop bytes i words₀ k₀ words k = 8 - k
 
-word-at-requires-2 : tie.Need-word-at-requires-2
-word-at-requires-2 c κs = search needs
+loop-holds : tie.Need-loop-holds Inv-loop μ-loop
+loop-holds c = read-start _ _ _ (search needs)
 
-add-word-at-2 : tie.Need-add-word-at-2
-add-word-at-2 c = search needs
+mul-word-at : tie.Need-mul-word-at Inv-loop μ-loop
+mul-word-at c = omega arith
 
-word-at-requires-3 : tie.Need-word-at-requires-3
-word-at-requires-3 c κs = search needs
+add-word-at : tie.Need-add-word-at Inv-loop μ-loop
+add-word-at c = omega arith
 
-add-word-at-3 : tie.Need-add-word-at-3
-add-word-at-3 c = search needs
+word-at-requires : tie.Need-word-at-requires Inv-loop μ-loop
+word-at-requires c κs = omega arith
 
-word-at-requires-4 : tie.Need-word-at-requires-4
-word-at-requires-4 c κs = search needs
+mul-words : tie.Need-mul-words Inv-loop μ-loop
+mul-words c = omega arith
 
-add-word-at-4 : tie.Need-add-word-at-4
-add-word-at-4 c = search needs
+array-write-words : tie.Need-array-write-words Inv-loop μ-loop
+array-write-words c = omega arith
 
-word-at-requires-5 : tie.Need-word-at-requires-5
-word-at-requires-5 c κs = search needs
+add-k : tie.Need-add-k Inv-loop μ-loop
+add-k c = omega arith
 
-add-word-at-5 : tie.Need-add-word-at-5
-add-word-at-5 c = search needs
+loop-less : tie.Need-loop-less Inv-loop μ-loop
+loop-less c = omega arith
 
-word-at-requires-6 : tie.Need-word-at-requires-6
-word-at-requires-6 c κs = search needs
+loop-again : tie.Need-loop-again Inv-loop μ-loop
+loop-again c = read-turn _ _ _ _ _ (c .before .before .loop .inv) (c .before .loop-test .taken) (c .word-at .ensures)
 
-add-word-at-6 : tie.Need-add-word-at-6
-add-word-at-6 c = search needs
-
-word-at-requires-7 : tie.Need-word-at-requires-7
-word-at-requires-7 c κs = search needs
-
-add-word-at-7 : tie.Need-add-word-at-7
-add-word-at-7 c = search needs
-
-word-at-requires-8 : tie.Need-word-at-requires-8
-word-at-requires-8 c κs = search needs
-
-returns : tie.Need-returns
-unfolding wordsAt
-returns c = rw (c .before .before .before .before .before .before .before .word-at .ensures, c .before .before .before .before .before .before .word-at2 .ensures, c .before .before .before .before .before .word-at3 .ensures, c .before .before .before .before .word-at4 .ensures, c .before .before .before .word-at5 .ensures, c .before .before .word-at6 .ensures, c .before .word-at7 .ensures, c .word-at8 .ensures)
+returns : tie.Need-returns Inv-loop μ-loop
+returns c = read-end _ _ _ _ (c .before .loop .inv) (c .loop-test .left)
 
 pub words-at-spec : {M : Type 1} → statement M
 words-at-spec =
     tie.close
     (tie.spec
-    word-at-requires
+    Inv-loop
+    μ-loop
+    loop-holds
+    mul-word-at
     add-word-at
-    word-at-requires-2
-    add-word-at-2
-    word-at-requires-3
-    add-word-at-3
-    word-at-requires-4
-    add-word-at-4
-    word-at-requires-5
-    add-word-at-5
-    word-at-requires-6
-    add-word-at-6
-    word-at-requires-7
-    add-word-at-7
-    word-at-requires-8
+    word-at-requires
+    mul-words
+    array-write-words
+    add-k
+    loop-less
+    loop-again
     returns)
