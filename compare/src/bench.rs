@@ -1,11 +1,8 @@
 //! Two programs side by side: each call goes to both and all it gave is compared.
 
-use crate::calls::wired;
 use crate::command::{hex, Command};
-use crate::device::Device;
 use crate::model::Model;
-use crate::open::{open, Open};
-use crate::record::{at, decode, LENGTH};
+use crate::record::LENGTH;
 use crate::session::{Outcome, Session, PREFILL};
 use std::fmt;
 use std::fs::File;
@@ -18,38 +15,6 @@ pub struct Difference(pub String);
 pub type Step<T> = Result<T, Difference>;
 
 #[derive(Clone, Copy, Default)]
-pub struct Options {
-    /// Compare what the papers leave open, too.
-    pub odd: bool,
-}
-
-/// What of a call's results the papers fix.
-struct Fixed {
-    /// Output bytes of the cycles run; those past them if the state is.
-    output: Vec<bool>,
-    /// The lines kept in the record.
-    lines: bool,
-    /// All else in the records, and the answer.
-    state: bool,
-}
-
-impl Fixed {
-    fn all() -> Fixed {
-        Fixed { output: Vec::new(), lines: true, state: true }
-    }
-
-    fn is_all(&self) -> bool {
-        self.lines && self.state && self.output.iter().all(|fixed| *fixed)
-    }
-
-    fn note(&mut self, open: Open) {
-        self.state &= open != Open::State;
-        self.lines = self.state && open == Open::Nothing;
-        self.output.push(self.lines);
-    }
-}
-
-#[derive(Clone, Copy, Default)]
 pub struct Counts {
     pub reset: u64,
     pub read: u64,
@@ -59,10 +24,6 @@ pub struct Counts {
     pub pair: u64,
     pub refused: u64,
     pub cycles: u64,
-    /// Runs in which the lines of some cycles are open.
-    pub open_lines: u64,
-    /// Runs of which only refusal and soundness are compared from some cycle on.
-    pub open_states: u64,
 }
 
 impl Counts {
@@ -98,7 +59,7 @@ impl fmt::Display for Counts {
     fn fmt(&self, f: &mut fmt::Formatter) -> fmt::Result {
         write!(
             f,
-            "{} calls (reset {}, read {}, write {}, run {}, run to idle {}, pair run {}; refused {}, open lines {}, open states {}), {} cycles",
+            "{} calls (reset {}, read {}, write {}, run {}, run to idle {}, pair run {}; refused {}), {} cycles",
             self.calls(),
             self.reset,
             self.read,
@@ -107,8 +68,6 @@ impl fmt::Display for Counts {
             self.idle,
             self.pair,
             self.refused,
-            self.open_lines,
-            self.open_states,
             self.cycles
         )
     }
@@ -117,7 +76,6 @@ impl fmt::Display for Counts {
 pub struct Bench<'m> {
     second: Session<'m>,
     other: Session<'m>,
-    options: Options,
     title: String,
     log: Vec<Command>,
     /// Holds each call before it is made, for a program that does not return.
@@ -126,11 +84,10 @@ pub struct Bench<'m> {
 }
 
 impl<'m> Bench<'m> {
-    pub fn new(second: &'m dyn Model, other: &'m dyn Model, options: Options) -> Bench<'m> {
+    pub fn new(second: &'m dyn Model, other: &'m dyn Model) -> Bench<'m> {
         Bench {
             second: Session::new(second),
             other: Session::new(other),
-            options,
             title: String::new(),
             log: Vec::new(),
             trace: None,
@@ -153,19 +110,11 @@ impl<'m> Bench<'m> {
         &self.second.records[device]
     }
 
-    /// The records of both programs, to come back to.
-    pub fn keep(&self, device: usize) -> [Vec<u8>; 2] {
-        [self.second.records[device].clone(), self.other.records[device].clone()]
-    }
-
-    pub fn restore(&mut self, device: usize, kept: &[Vec<u8>; 2]) {
-        self.second.records[device] = kept[0].clone();
-        self.other.records[device] = kept[1].clone();
-        self.log.push(Command::Load { device, bytes: kept[0].clone() });
-    }
-
     pub fn load(&mut self, device: usize, bytes: &[u8]) {
-        self.restore(device, &[bytes.to_vec(), bytes.to_vec()]);
+        for session in [&mut self.second, &mut self.other] {
+            session.records[device] = bytes.to_vec();
+        }
+        self.log.push(Command::Load { device, bytes: bytes.to_vec() });
     }
 
     /// Replays need nothing that came before the records as they are now.
@@ -178,26 +127,16 @@ impl<'m> Bench<'m> {
     }
 
     pub fn step(&mut self, command: Command) -> Step<Outcome> {
-        let before = [self.second.records.clone(), self.other.records.clone()];
-        let mut fixed = if self.options.odd { Fixed::all() } else { self.fixed(&command) };
+        // The same in both programs.
+        let before = self.second.records.clone();
         self.write_trace(&command);
         let one = self.second.call(&command);
         let other = self.other.call(&command);
-        if one.refusal != 0 {
-            fixed = Fixed::all();
-        }
         self.counts.add(&command, &one);
         self.log.push(command);
-        let found = self
-            .compare(&one, &other, &fixed)
-            .or_else(|| self.refused_unchanged(&before, &one, &other));
+        let found = self.compare(&one, &other).or_else(|| self.refused_unchanged(&before, &one));
         if let Some(what) = found {
             return Err(self.difference(&what, &before, &one, &other));
-        }
-        if !fixed.is_all() {
-            self.counts.open_lines += u64::from(fixed.state);
-            self.counts.open_states += u64::from(!fixed.state);
-            self.meet();
         }
         Ok(one)
     }
@@ -216,105 +155,36 @@ impl<'m> Bench<'m> {
         }
     }
 
-    /// Where something was open both go on from the same records.
-    fn meet(&mut self) {
-        for device in 0..2 {
-            let bytes = self.record(device).to_vec();
-            self.load(device, &bytes);
-        }
-    }
-
-    /// Runs the call on copies to see which of its cycles are open.
-    fn fixed(&self, command: &Command) -> Fixed {
-        let mut fixed = Fixed::all();
-        let to_idle = matches!(command, Command::Idle { .. });
-        match command {
-            Command::Run { device, input, .. } | Command::Idle { device, input, .. } => {
-                let Some(mut device) = sound_device(self.record(*device)) else {
-                    return fixed;
-                };
-                for pins in input {
-                    if to_idle && !device.busy() {
-                        break;
-                    }
-                    fixed.note(open(&device));
-                    device.cycle(*pins);
-                }
-            }
-            Command::PairRun { cycles } | Command::Pair { cycles } => {
-                let records = [self.record(0), self.record(1)];
-                if let [Some(first), Some(second)] = records.map(sound_device) {
-                    fixed.state = pair_is_fixed(first, second, *cycles);
-                }
-            }
-            _ => {}
-        }
-        fixed
-    }
-
-    fn compare(&self, one: &Outcome, other: &Outcome, fixed: &Fixed) -> Option<String> {
-        if one.refusal != other.refusal || fixed.state && one.value != other.value {
+    fn compare(&self, one: &Outcome, other: &Outcome) -> Option<String> {
+        if one.refusal != other.refusal || one.value != other.value {
             return Some("answers differ".to_string());
         }
         if !one.intact || !other.intact {
             return Some("bytes outside the lent buffers, or the input, were written".to_string());
         }
-        if one.output.len() != other.output.len() {
-            return Some("lengths of the output differ".to_string());
+        if let Some(at) = first_difference(&one.output, &other.output) {
+            return Some(format!("output differs at byte {at}"));
         }
-        for (at, (a, b)) in one.output.iter().zip(&other.output).enumerate() {
-            let same = fixed.output.get(at).copied().unwrap_or(fixed.state);
-            if same && a != b || !same && !is_line_byte(*b) {
-                return Some(format!("output differs at byte {at}"));
-            }
-        }
-        self.compare_records(fixed, one.refusal == 0)
-    }
-
-    fn compare_records(&self, fixed: &Fixed, done: bool) -> Option<String> {
         for (device, (a, b)) in self.second.records.iter().zip(&self.other.records).enumerate() {
-            if !fixed.state {
-                if done && !(is_sound(a) && is_sound(b)) {
-                    return Some(format!("record {device} became unsound"));
-                }
-                continue;
-            }
-            let differs = |at: &usize| a.get(*at) != b.get(*at);
-            let counts = |at: &usize| fixed.lines || *at != at::LINES;
-            if let Some(at) = (0..a.len().max(b.len())).filter(counts).find(differs) {
+            if let Some(at) = first_difference(a, b) {
                 return Some(format!("record {device} differs at byte {at}"));
-            }
-            if done && !fixed.lines && !is_sound(b) {
-                return Some(format!("record {device} became unsound"));
             }
         }
         None
     }
 
     /// Whatever the programs agree on, a refusal must leave all as it was.
-    fn refused_unchanged(
-        &self,
-        before: &[[Vec<u8>; 2]; 2],
-        one: &Outcome,
-        other: &Outcome,
-    ) -> Option<String> {
-        for (outcome, records, session) in
-            [(one, &before[0], &self.second), (other, &before[1], &self.other)]
-        {
-            let untouched = outcome.value == 0
-                && outcome.output.iter().all(|byte| *byte == PREFILL)
-                && *records == session.records;
-            if outcome.refusal != 0 && !untouched {
-                return Some("a refused call changed something".to_string());
-            }
-        }
-        None
+    fn refused_unchanged(&self, before: &[Vec<u8>; 2], outcome: &Outcome) -> Option<String> {
+        let untouched = outcome.value == 0
+            && outcome.output.iter().all(|byte| *byte == PREFILL)
+            && *before == self.second.records;
+        (outcome.refusal != 0 && !untouched).then(|| "a refused call changed something".to_string())
     }
 
     fn difference(
         &self,
         what: &str,
-        before: &[[Vec<u8>; 2]; 2],
+        before: &[Vec<u8>; 2],
         one: &Outcome,
         other: &Outcome,
     ) -> Difference {
@@ -329,7 +199,7 @@ impl<'m> Bench<'m> {
             }
         }
         text += "# the failing call alone:\n";
-        for (device, record) in before[0].iter().enumerate() {
+        for (device, record) in before.iter().enumerate() {
             text += &format!("load {device} {}\n", hex(record));
         }
         text += &self.log.last().map_or(String::new(), |command| format!("{command}\n"));
@@ -341,28 +211,7 @@ impl<'m> Bench<'m> {
     }
 }
 
-fn sound_device(record: &[u8]) -> Option<Device> {
-    record.try_into().ok().and_then(decode)
-}
-
-fn is_sound(record: &[u8]) -> bool {
-    sound_device(record).is_some()
-}
-
-/// Lines, or a byte that the run did not reach.
-fn is_line_byte(byte: u8) -> bool {
-    byte <= 15 || byte == PREFILL
-}
-
-/// In a pair even open lines reach the partner's pins.
-fn pair_is_fixed(mut first: Device, mut second: Device, cycles: u64) -> bool {
-    for _ in 0..cycles {
-        if open(&first).max(open(&second)) != Open::Nothing {
-            return false;
-        }
-        let (to_first, to_second) = (wired(second.lines), wired(first.lines));
-        first.cycle(to_first);
-        second.cycle(to_second);
-    }
-    true
+/// The first byte that differs or that only one has.
+fn first_difference(a: &[u8], b: &[u8]) -> Option<usize> {
+    (0..a.len().max(b.len())).find(|at| a.get(*at) != b.get(*at))
 }

@@ -9,7 +9,6 @@ pub mod device;
 pub mod fault;
 pub mod library;
 pub mod model;
-pub mod open;
 pub mod random;
 pub mod record;
 pub mod recording;

@@ -1,6 +1,6 @@
 //! Compares the second program with the proved one, call by call.
 
-use compare::bench::{Bench, Options};
+use compare::bench::Bench;
 use compare::cases::{self, Plan};
 use compare::command::Command;
 use compare::fault::Faulty;
@@ -12,7 +12,7 @@ use std::io::{self, BufRead};
 use std::process::ExitCode;
 use std::time::Duration;
 
-const USAGE: &str = "usage: compare [--self | --fault N] [--odd]
+const USAGE: &str = "usage: compare [--self | --fault N]
                [--rounds N] [--least N] [--seconds N] [--seed HEX] [--trace FILE]
        compare [--self | --fault N] --replay < script";
 
@@ -25,28 +25,18 @@ struct Arguments {
     trace: Option<String>,
     /// Calls that must have been compared.
     least: u64,
-    options: Options,
     plan: Plan,
 }
 
 fn parse(words: &[String]) -> Option<Arguments> {
     let plan = Plan { seed: SEED, rounds: 400, limit: None };
-    let options = Options::default();
-    let mut arguments = Arguments {
-        fault: None,
-        itself: false,
-        replay: false,
-        trace: None,
-        least: 0,
-        options,
-        plan,
-    };
+    let mut arguments =
+        Arguments { fault: None, itself: false, replay: false, trace: None, least: 0, plan };
     let mut words = words.iter();
     while let Some(word) = words.next() {
         match word.as_str() {
             "--self" => arguments.itself = true,
             "--replay" => arguments.replay = true,
-            "--odd" => arguments.options.odd = true,
             "--trace" => arguments.trace = Some(words.next()?.clone()),
             "--fault" => arguments.fault = Some(words.next()?.parse().ok()?),
             "--least" => arguments.least = words.next()?.parse().ok()?,
@@ -124,7 +114,7 @@ fn main() -> ExitCode {
     }
     let plan = arguments.plan;
     println!("compare: seed {:x}, {} rounds", plan.seed, plan.rounds);
-    let mut bench = Bench::new(&Second, other.as_ref(), arguments.options);
+    let mut bench = Bench::new(&Second, other.as_ref());
     if let Some(path) = &arguments.trace {
         bench.trace = File::create(path).ok();
     }

@@ -93,14 +93,14 @@ pub fn sequence(bench: &mut Bench, random: &mut Random) -> Step<()> {
 /// Each offset, read and written, from one reached record again and again.
 pub fn every_offset(bench: &mut Bench, random: &mut Random) -> Step<()> {
     sequence(bench, random)?;
-    let kept = bench.keep(0);
+    let kept = bench.record(0).to_vec();
     for offset in 0..=0x1010 {
-        bench.restore(0, &kept);
+        bench.load(0, &kept);
         bench.forget();
         read(bench, 0, offset)?;
         let given = value(random, bench, 0, offset);
         for value in [0, given, 0xF, 0x10, 0x100, 0x1_0000] {
-            bench.restore(0, &kept);
+            bench.load(0, &kept);
             write(bench, 0, offset, value)?;
         }
     }

@@ -13,10 +13,10 @@ pub fn wrong(bench: &mut Bench, random: &mut Random) -> Step<()> {
     let cr1 = enabling(random, slave);
     set_up(bench, random, 0, cr1)?;
     write(bench, 0, CR1, cr1)?;
-    let kept = bench.keep(0);
+    let kept = bench.record(0).to_vec();
     for _ in 0..80 {
-        bench.restore(0, &kept);
-        spoil_record(bench, random, &kept);
+        let spoiled = spoil_record(random, kept.clone());
+        bench.load(0, &spoiled);
         let (input, output_len) = spoiled_buffers(random);
         let device = 0;
         let command = match random.below(8) {
@@ -32,17 +32,16 @@ pub fn wrong(bench: &mut Bench, random: &mut Random) -> Step<()> {
 }
 
 /// Mostly leaves the record whole.
-fn spoil_record(bench: &mut Bench, random: &mut Random, kept: &[Vec<u8>; 2]) {
-    let mut spoiled = kept.clone();
+fn spoil_record(random: &mut Random, mut record: Vec<u8>) -> Vec<u8> {
     match random.below(10) {
         0 | 1 => {
             let length = random.pick(&LENGTHS);
-            spoiled.iter_mut().for_each(|record| record.resize(length, 0));
+            record.resize(length, 0);
         }
-        2 | 3 => spoiled.iter_mut().for_each(|record| record[100] = 1),
-        _ => return,
+        2 | 3 => record[100] = 1,
+        _ => {}
     }
-    bench.restore(0, &spoiled);
+    record
 }
 
 /// Input bytes above 7 anywhere, also past where a run to idle stops.

@@ -33,17 +33,15 @@ pub fn probe(bench: &mut Bench, random: &mut Random) -> Step<()> {
 
 pub fn every_bit(bench: &mut Bench, random: &mut Random) -> Step<()> {
     reach(bench, random)?;
-    let kept = bench.keep(0);
+    let kept = bench.record(0).to_vec();
     for bit in 0..8 * LENGTH {
         let mut flipped = kept.clone();
-        for record in &mut flipped {
-            record[bit / 8] ^= 1 << (bit % 8);
-        }
-        bench.restore(0, &flipped);
+        flipped[bit / 8] ^= 1 << (bit % 8);
+        bench.load(0, &flipped);
         bench.forget();
         probe(bench, random)?;
         if bit % 32 == 0 {
-            bench.restore(0, &flipped);
+            bench.load(0, &flipped);
             bench.step(Command::Reset { device: 0 })?;
         }
     }
@@ -52,16 +50,16 @@ pub fn every_bit(bench: &mut Bench, random: &mut Random) -> Step<()> {
 
 pub fn random_bytes(bench: &mut Bench, random: &mut Random) -> Step<()> {
     reach(bench, random)?;
-    let kept = bench.keep(0);
+    let kept = bench.record(0).to_vec();
     for _ in 0..300 {
         let mut bytes = kept.clone();
         for _ in 0..1 + random.below(3) {
             let reach = if random.percent(80) { 64 } else { LENGTH };
             let at = random.size(reach);
             let value = random.number() as u8 & random.pick(&[1, 3, 15, 255]);
-            bytes.iter_mut().for_each(|record| record[at] = value);
+            bytes[at] = value;
         }
-        bench.restore(0, &bytes);
+        bench.load(0, &bytes);
         bench.forget();
         probe(bench, random)?;
     }

@@ -1,9 +1,12 @@
-//! Records put together field by field, on both sides of each limit of soundness.
+//! Records put together field by field: on both sides of each limit of soundness, and
+//! sound but odd.
 
 use super::damage::probe;
-use super::settings::{permitted_cr0, speed};
+use super::settings::{permitted_cr0, run, speed};
+use super::waves::noise;
 use crate::bench::{Bench, Step};
 use crate::command::Command;
+use crate::device::FSS;
 use crate::random::Random;
 use crate::record::{at, LENGTH};
 
@@ -17,11 +20,25 @@ pub fn near_the_limits(bench: &mut Bench, random: &mut Random) -> Step<()> {
     Ok(())
 }
 
+/// Engines whose fields do not fit each other, D95 to D105.
+pub fn odd(bench: &mut Bench, random: &mut Random) -> Step<()> {
+    for _ in 0..150 {
+        let record = forge_odd(random);
+        bench.load(0, &record);
+        bench.forget();
+        let cycles = random.pick(&[1, 2, 3, 12, 40]);
+        let input = noise(random, cycles);
+        run(bench, 0, input)?;
+        probe(bench, random)?;
+    }
+    Ok(())
+}
+
 /// Two forged records wired together.
 pub fn pair(bench: &mut Bench, random: &mut Random) -> Step<()> {
     for _ in 0..150 {
         for device in 0..2 {
-            let record = forge(random);
+            let record = if random.percent(50) { forge_odd(random) } else { forge(random) };
             bench.load(device, &record);
         }
         bench.forget();
@@ -78,14 +95,43 @@ fn forge(random: &mut Random) -> [u8; LENGTH] {
     record
 }
 
+/// An enabled device with short slots, its counts where something is decided.
+fn forge_odd(random: &mut Random) -> [u8; LENGTH] {
+    let mut record = forge(random);
+    let h = 1 + random.below(3) as u32;
+    put(&mut record, at::CR0, permitted_cr0(random, 0), 2);
+    put(&mut record, at::CPSR, 2 * h, 1);
+    put(&mut record, at::CR1, random.below(16) as u32 | 2, 1);
+    put(&mut record, at::RT_COUNT, random.pick(&[0, 64 * h - 2, 64 * h - 1]), 4);
+    for place in [at::FRAME, at::SELECTED, at::MARK] {
+        put(&mut record, place, random.below(2) as u32, 1);
+    }
+    let (b, last) = sizes(&record);
+    let captured = random.below(u64::from(b)) as u32;
+    put(&mut record, at::CAPTURED, random.pick(&[0, b - 1, b, captured]), 1);
+    let slot = random.below(u64::from(last)) as u32;
+    put(&mut record, at::SLOT, random.pick(&[0, 1, 2 * b, last - 1, last, slot]), 1);
+    put(&mut record, at::GONE, random.pick(&[0, 0, h - 1]), 2);
+    if random.percent(75) {
+        // A Motorola slave acts with FSS LOW.
+        record[at::PINS..at::PINS + 3].iter_mut().for_each(|pins| *pins &= !FSS);
+    }
+    record
+}
+
+/// b and the format's last slot.
+fn sizes(record: &[u8]) -> (u32, u32) {
+    let b = u32::from(record[at::CR0] & 15) + 1;
+    (b, 2 * b + [3, 1, 20, 3][usize::from(record[at::CR0] >> 4 & 3)])
+}
+
 /// Frame, slot and counts; zero, or nearly so, in a disabled device.
 fn forge_engine(random: &mut Random, record: &mut [u8], enabled: bool) {
     if !enabled && random.percent(90) {
         return;
     }
     let h = u32::from(record[at::CPSR] / 2) * (1 + u32::from(record[at::CR0 + 1]));
-    let b = u32::from(record[at::CR0] & 15) + 1;
-    let last = 2 * b + [3, 1, 20, 3][usize::from(record[at::CR0] >> 4 & 3)];
+    let (b, last) = sizes(record);
     for place in [at::FRAME, at::SELECTED, at::MARK] {
         put(record, place, flag(random), 1);
     }

@@ -25,7 +25,7 @@ pub struct Plan {
 type Case = fn(&mut Bench, &mut Random) -> Step<()>;
 
 /// Name, the case, and in which rounds it runs: each n-th.
-const CASES: [(&str, Case, u64); 14] = [
+const CASES: [(&str, Case, u64); 15] = [
     ("accesses", accesses::sequence, 1),
     ("offsets", accesses::every_offset, 16),
     ("master", engine::master, 1),
@@ -36,23 +36,12 @@ const CASES: [(&str, Case, u64); 14] = [
     ("bit flips", damage::every_bit, 4),
     ("random bytes", damage::random_bytes, 4),
     ("forged records", forged::near_the_limits, 1),
+    ("odd records", forged::odd, 1),
     ("slow", slow::large_slots, 8),
     ("pair", pairs::pair, 1),
     ("pair refusals", pairs::refusals, 4),
     ("forged pair", forged::pair, 1),
 ];
-
-/// One case by its name, from a seed; false if there is none.
-pub fn run_one(bench: &mut Bench, name: &str, seed: u64) -> Step<bool> {
-    for (known, case, _) in &CASES {
-        if *known == name {
-            bench.begin(format!("case {name}, seed {seed:x}"))?;
-            case(bench, &mut Random::new(seed))?;
-            return Ok(true);
-        }
-    }
-    Ok(false)
-}
 
 pub fn run(bench: &mut Bench, plan: &Plan) -> Step<u64> {
     let start = Instant::now();

@@ -65,19 +65,19 @@ fn matched(bench: &mut Bench, random: &mut Random) -> Step<()> {
 /// Lengths and soundness of either record.
 pub fn refusals(bench: &mut Bench, random: &mut Random) -> Step<()> {
     matched(bench, random)?;
-    let kept = [bench.keep(0), bench.keep(1)];
+    let kept = [0, 1].map(|device| bench.record(device).to_vec());
     for _ in 0..60 {
         for (device, whole) in kept.iter().enumerate() {
             let mut spoiled = whole.clone();
             match random.below(4) {
                 0 => {
                     let length = random.pick(&[0, 127, 129]);
-                    spoiled.iter_mut().for_each(|record| record.resize(length, 0));
+                    spoiled.resize(length, 0);
                 }
-                1 => spoiled.iter_mut().for_each(|record| record[at::LINES] = 16),
+                1 => spoiled[at::LINES] = 16,
                 _ => {}
             }
-            bench.restore(device, &spoiled);
+            bench.load(device, &spoiled);
         }
         bench.forget();
         let cycles = random.below(4);

@@ -101,7 +101,7 @@ impl Device {
     }
 
     /// The slot's first cycle captures a bit.
-    pub(crate) fn captures_in_slot(&self) -> bool {
+    fn captures_in_slot(&self) -> bool {
         let b = self.bits();
         let slot = self.slot;
         match self.format() {
@@ -116,22 +116,23 @@ impl Device {
         self.slot < 2 && self.captured != 0
     }
 
+    /// A frame shows its lines in every slot, also in those where it should be over.
     fn master_lines(&self) -> u8 {
-        let b = self.bits();
+        if !self.frame {
+            return self.idle_lines();
+        }
         let slot = self.slot;
         let odd = slot % 2 == 1;
         match self.format() {
-            Format::Motorola if slot >= 2 * b + 2 => self.idle_lines(),
             Format::Motorola => {
-                let phase = if self.sph() { odd && slot < 2 * b } else { !odd && slot >= 2 };
-                pack(phase != self.spo(), false, self.held, false)
+                let active = slot > 0 && slot <= 2 * self.bits() && odd == self.sph();
+                pack(active != self.spo(), false, slot > 0 && self.held, false)
             }
             Format::Ti if slot < 2 => {
                 let joined = self.joined();
                 pack(!odd, true, joined && self.held, !joined)
             }
             Format::Ti => pack(!odd, false, self.held, false),
-            Format::Microwire if slot >= 19 + 2 * b => self.idle_lines(),
             Format::Microwire if slot < 2 * CONTROL_BITS => pack(odd, false, self.held, false),
             Format::Microwire => pack(odd, false, false, true),
         }

@@ -188,18 +188,18 @@ impl Device {
     }
 
     /// Bit i of the word being sent, the most significant of b first.
-    pub(crate) fn bit(&self, i: u8) -> bool {
+    fn bit(&self, i: u8) -> bool {
         self.sending >> (self.bits() - 1 - i) & 1 != 0
     }
 
     /// Takes a word to send, or zeros for want of one.
-    pub(crate) fn take_word(&mut self) {
+    fn take_word(&mut self) {
         self.sending = self.tx.pop().unwrap_or(0);
         self.frame = true;
     }
 
     /// Takes a word and makes ready to capture one; no data level is out yet.
-    pub(crate) fn begin_word(&mut self) {
+    fn begin_word(&mut self) {
         self.take_word();
         self.captured = 0;
         self.held = false;
@@ -207,7 +207,7 @@ impl Device {
     }
 
     /// The frame is over or dropped: nothing is left of its words.
-    pub(crate) fn end_frame(&mut self) {
+    fn end_frame(&mut self) {
         self.frame = false;
         self.captured = 0;
         self.held = false;
@@ -216,7 +216,7 @@ impl Device {
     }
 
     /// Bytes 12 to 23 of the record become zero.
-    pub(crate) fn clear_engine(&mut self) {
+    fn clear_engine(&mut self) {
         self.end_frame();
         self.selected = false;
         self.mark = false;
@@ -224,20 +224,19 @@ impl Device {
         self.gone = 0;
     }
 
-    /// Captures one bit; true if it completed the word. More than b are ignored.
-    pub(crate) fn capture(&mut self, level: bool) -> bool {
-        if self.captured >= self.bits() {
-            return false;
+    fn all_captured(&self) -> bool {
+        self.captured == self.bits()
+    }
+
+    /// Captures one bit, the last completes the word. More than b are ignored.
+    fn capture(&mut self, level: bool) {
+        if self.all_captured() {
+            return;
         }
         self.receiving = self.receiving << 1 | u16::from(level);
         self.captured += 1;
-        if self.captured < self.bits() {
-            return false;
-        }
-        let word = self.receiving & self.mask();
-        if !self.rx.push(word) {
+        if self.all_captured() && !self.rx.push(self.receiving & self.mask()) {
             self.ror = true;
         }
-        true
     }
 }

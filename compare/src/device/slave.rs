@@ -4,33 +4,28 @@ use super::{Device, Format, CLK, DATA, FSS, NSSPOE, SLAVE_IDLE};
 
 /// What the slave sees in one cycle: the pins, and those of the cycle before.
 #[derive(Clone, Copy)]
-pub struct Seen {
+struct Seen {
     now: u8,
     before: u8,
 }
 
 impl Seen {
-    pub fn high(&self, pin: u8) -> bool {
+    fn high(&self, pin: u8) -> bool {
         self.now & pin != 0
     }
 
-    pub fn rose(&self, pin: u8) -> bool {
+    fn rose(&self, pin: u8) -> bool {
         self.now & !self.before & pin != 0
     }
 
-    pub fn fell(&self, pin: u8) -> bool {
+    fn fell(&self, pin: u8) -> bool {
         !self.now & self.before & pin != 0
     }
 }
 
 impl Device {
-    /// What the next cycle sees.
-    pub fn seen(&self) -> Seen {
-        Seen { now: self.pins[1], before: self.pins[2] }
-    }
-
     pub(super) fn slave_cycle(&mut self) -> u8 {
-        let seen = self.seen();
+        let seen = Seen { now: self.pins[1], before: self.pins[2] };
         match self.format() {
             Format::Motorola => self.motorola_slave(seen),
             Format::Ti => self.ti_slave(seen),
@@ -72,6 +67,10 @@ impl Device {
         if self.selected && (seen.rose(CLK) || seen.fell(CLK)) {
             self.motorola_edge(seen);
         }
+        if self.all_captured() {
+            // TXD holds until FSS is HIGH, so only the frame ends.
+            self.frame = false;
+        }
         self.slave_lines(self.selected)
     }
 
@@ -89,6 +88,11 @@ impl Device {
         self.held = self.bit(0);
     }
 
+    /// Drives the bit that is captured next; the last one if all are.
+    fn drive_bit(&mut self) {
+        self.held = self.bit(self.captured.min(self.bits() - 1));
+    }
+
     fn motorola_edge(&mut self, seen: Seen) {
         let to_active = seen.high(CLK) != self.spo();
         if self.sph() && to_active && !self.frame {
@@ -96,29 +100,26 @@ impl Device {
         } else if !self.frame {
             // Before the word is taken, or after its last bit.
         } else if to_active != self.sph() {
-            if self.capture(self.slave_data(seen)) {
-                // TXD holds until FSS is HIGH, so only the frame ends.
-                self.frame = false;
-            }
-        } else if self.captured < self.bits() {
-            self.held = self.bit(self.captured);
+            self.capture(self.slave_data(seen));
+        } else {
+            self.drive_bit();
         }
     }
 
     fn ti_slave(&mut self, seen: Seen) -> u8 {
+        let start = seen.fell(CLK) && seen.high(FSS);
         if seen.rose(CLK) {
             self.ti_rise();
         }
-        if !seen.fell(CLK) {
-            return self.slave_lines(self.frame);
-        }
-        let start = seen.high(FSS);
         if self.frame && start && self.captured + 1 < self.bits() {
             self.end_frame();
         }
         // The last capture's own cycle still shows the bit.
         let lines = self.slave_lines(self.frame);
-        if self.frame && self.capture(self.slave_data(seen)) {
+        if self.frame && seen.fell(CLK) {
+            self.capture(self.slave_data(seen));
+        }
+        if self.frame && self.all_captured() {
             self.end_frame();
         }
         self.mark |= start;
@@ -129,8 +130,8 @@ impl Device {
         if self.mark {
             self.mark = false;
             self.start_word();
-        } else if self.frame && self.captured < self.bits() {
-            self.held = self.bit(self.captured);
+        } else if self.frame {
+            self.drive_bit();
         }
     }
 }
