@@ -15,7 +15,7 @@ use Rattle.serial.proofs.Soundness.{EngineFit, engine-fit}
 use Rattle.registers.specs.Model.{Model}
 use Rattle.registers.specs.Sound.{soundRegisters, wordsFit, registersFit}
 use Rattle.registers.specs.declared.fields.Fields.{Fields}
-use Rattle.serial.specs.Cycle.{DeviceModel}
+use Rattle.serial.specs.Cycle.{DeviceModel, activeDevice}
 use Rattle.serial.specs.Lines.{pinsOf, byteOf}
 use Rattle.serial.specs.Sound.{soundDevice, deviceFits}
 use Rattle.device_record.specs.Record.{recordLength, pinByte, registerBytes, engineBytes, levelBytes, countBytes, stateBytes, wordBytes, queueBytes, encoded, wordAt, longAt, flagAt, wordsAt, linesFrom, fieldsAt, engineAt, historyAt, decode, eqList, soundBytes}
@@ -188,7 +188,7 @@ module _ (m : Model) (e : Engine) (h : History) (l : Lines) where
 pub decode-encode : (d : DeviceModel) → soundDevice d ≡ true → deviceFits d ≡ true → decode (encoded d) ≡ d
 unfolding soundDevice deviceFits encoded decode
 decode-encode d s f =
-    let file = file-fits (d .registers) (and-left (soundRegisters (d .registers)) _ s) (and-left (registersFit (d .registers)) _ f) in
+    let file = file-fits (d .registers) _ (and-left (soundRegisters (d .registers) (activeDevice d)) _ s) (and-left (registersFit (d .registers)) _ f) in
     rw (fields-back (d .registers) (d .engine) (d .pins) (d .lines) file, engine-back (d .registers) (d .engine) (d .pins) (d .lines) (engine-fit d f), history-back (d .registers) (d .engine) (d .pins) (d .lines), levels-back (d .registers) (d .engine) (d .pins) (d .lines), model-fields (d .registers) (file .waiting) (file .held))
 
 fits-encoded : (d : DeviceModel) → deviceFits (decode (encoded d)) ≡ true

@@ -52,7 +52,8 @@ fn word(n: u32, r: Registers) -> Outcome {
 }
 
 fn write(r: Registers, offset: u32, value: u32) -> Outcome {
-    let out = access::write(r, offset, value);
+    let active = settings::enabled(r);
+    let out = access::write(r, active, offset, value);
     refused(out.refusal, out.registers)
 }
 
@@ -82,7 +83,8 @@ fn bits(r: Registers) -> Outcome {
 }
 
 fn set(r: Registers, offset: u32, value: u32) -> Registers {
-    let out = access::write(r, offset, value);
+    let active = settings::enabled(r);
+    let out = access::write(r, active, offset, value);
     out.registers
 }
 
