@@ -27,6 +27,7 @@ use Rattle.serial.proofs.Soundness.{sound-registers}
 use Rattle.serial.specs.Pair.{wire, PairModel, pairCycle, pairRun}
 use Rattle.serial.proofs.Trace.{iterate}
 use Rattle.serial.specs.Bits.{cut}
+use Rattle.serial.specs.Slots.{widthOf}
 use Rattle.serial.proofs.Drawing.Recorded.{Fresh}
 use Rattle.serial.proofs.Drawing.Enabled.{fresh-sound}
 use Rattle.serial.proofs.Drawing.Free.{busyCycles, busy-bound}
@@ -82,7 +83,7 @@ slotsOf Ti phase b n = 2 * b * suc n + 2
 slotsOf Microwire phase b n = 0
 slotsOf Reserved phase b n = 0
 
-exchange-of : {f : Format} → Serial f → (phase : Bool) (b h : ℕ) → 4 ≤ b → b ≤ 16 → 6 ≤ h → Exchange (plain f phase b h false) (plain f phase b h true) b (restLines f) (slotsOf f phase b)
+exchange-of : {f : Format} → Serial f → (phase : Bool) (b h : ℕ) → 4 ≤ b → b ≤ 16 → 6 ≤ h → Exchange (plain f phase b h false) (plain f phase b h true) (restLines f) (slotsOf f phase b)
 exchange-of motorola false b h l m k = phase0.exchange b h (omega arith) m k
 exchange-of motorola true b h l m k = phase1.exchange b h (omega arith) m k
 exchange-of ti phase b h l m k = ti-words.exchange phase b h (omega arith) m
@@ -102,7 +103,7 @@ answers-due ws vs = go ws (length ws) vs (omega arith)
     go (w ∷ ws) (suc k) (v ∷ vs) l = ap (λ (t : List ℕ). v ∷ t) (go ws (suc k) vs (omega arith))
 
 -- a load is received before the master's first BSY 0
-received-busy : {f : Format} (S : Serial f) (phase : Bool) (b h : ℕ) (X : Exchange (plain f phase b h false) (plain f phase b h true) b (restLines f) (slotsOf f phase b)) (L : Lawful (plain f phase b h true)) (k : 6 ≤ h) (ws : List ℕ)
+received-busy : {f : Format} (S : Serial f) (phase : Bool) (b h : ℕ) (X : Exchange (plain f phase b h false) (plain f phase b h true) (restLines f) (slotsOf f phase b)) (L : Lawful (plain f phase b h true)) (k : 6 ≤ h) (ws : List ℕ)
     → loadCycles X L k ws ≤ busyFor f phase b (divisor h) (length ws) .0
 unfolding cyclesOf
 received-busy S phase b h X L k [] = omega arith
@@ -148,7 +149,7 @@ module _ {f : Format} (S : Serial f) (phase p : Bool) (b h k : ℕ) (o : Bool) (
         h = record { newest = x t; middle = y t; oldest = z t };
       }
 
-  abbrev X : Exchange (plain f phase b h false) (plain f phase b h true) b (restLines f) (slotsOf f phase b)
+  abbrev X : Exchange (plain f phase b h false) (plain f phase b h true) (restLines f) (slotsOf f phase b)
   X = exchange-of S phase b h least most slow
 
   abbrev W : Lawful (plain f phase b h true)
@@ -179,7 +180,7 @@ module _ {f : Format} (S : Serial f) (phase p : Bool) (b h k : ℕ) (o : Bool) (
   in-time : (j : ℕ) → loadCycles X W slow (load master g) ≤ until + j
   in-time j = omega (arith, received-busy S phase b h X W slow (load master g))
 
-  master-gets : (j : ℕ) → Received b (until + j) master g
+  master-gets : (j : ℕ) → Received (given f phase p b h false o) (until + j) master g
   master-gets j =
       let r = ap (λ (c : Pair). c .m .rx) (run-of (until + j)) ∙ has-received X W slow (load master g) q₁ (load slave g) q₂ (until + j) (in-time j) held-small₁ held-small₂ .0 in
       let d = ap (map (cut b)) (answers-due (load master g) (load slave g)) in
@@ -189,13 +190,14 @@ module _ {f : Format} (S : Serial f) (phase p : Bool) (b h k : ℕ) (o : Bool) (
         overrun = ap (λ (x : Receiver). x .ror) r ∙ ap₂ (λ (t : Bool) (x : List ℕ). t || ltb 8 (length (held master g ++ x))) (L .ror₁) d;
       }
 
-  slave-gets : (j : ℕ) → Received b (until + j) slave g
+  slave-gets : (j : ℕ) → Received (given f phase p b h false o) (until + j) slave g
+  unfolding widthOf
   slave-gets j =
       let r = ap (λ (c : Pair). c .s .rx) (run-of (until + j)) ∙ has-received X W slow (load master g) q₁ (load slave g) q₂ (until + j) (in-time j) held-small₁ held-small₂ .1 in
       record {
         words = ap (λ (x : Receiver). x .log) r;
         queue = ap (λ (x : Receiver). x .held) r;
-        overrun = ap (λ (x : Receiver). x .ror) r ∙ ap (λ (t : Bool). t || ltb 8 (length (held slave g ++ map (cut b) (load master g)))) (L .ror₂);
+        overrun = ap (λ (x : Receiver). x .ror) r ∙ ap (λ (t : Bool). t || ltb 8 (length (held slave g ++ map (cut (widthOf (given f phase p b h false o))) (load master g)))) (L .ror₂);
       }
 
   pub exchanged-at : Exchanged g
@@ -208,8 +210,8 @@ module _ {f : Format} (S : Serial f) (phase p : Bool) (b h k : ℕ) (o : Bool) (
         bound = busy-bound s (g .first) fresh n;
         busy-before = pair-busy s g fresh;
         free = pair-free s g fresh (busyCycles s n .0) (le-refl _);
-        master-received = λ j. subst (λ (u : Settings). Received (u .bits) (busyCycles u n .0 + j) master g) (sym (P .master)) (master-gets j);
-        slave-received = λ j. subst (λ (u : Settings). Received (u .bits) (busyCycles u n .0 + j) slave g) (sym (P .master)) (slave-gets j);
+        master-received = λ j. subst (λ (u : Settings). Received u (busyCycles u n .0 + j) master g) (sym (P .master)) (master-gets j);
+        slave-received = λ j. subst (λ (u : Settings). Received u (busyCycles u n .0 + j) slave g) (sym (P .master)) (slave-gets j);
       }
 
 -- The way there --------------------------------------------------------------------------------------------------------

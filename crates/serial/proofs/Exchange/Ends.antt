@@ -12,7 +12,7 @@ use Rattle.registers.specs.Transfer.{rest}
 use Rattle.registers.specs.declared.settings.Settings.{Settings}
 use Rattle.serial.specs.Bits.{bitOf, cut}
 use Rattle.serial.specs.Engine.{cleared, clearShift, noWord, loaded}
-use Rattle.serial.specs.Slots.{eventOf, motorolaEvent, lastSlot}
+use Rattle.serial.specs.Slots.{eventOf, motorolaEvent, lastSlot, widthOf, captureWidth}
 use Rattle.serial.specs.Lines.{masterLines, slaveLines, masterTxd}
 use Rattle.serial.specs.Master.{act, masterStep, masterEnd, acting, resting, dataBit}
 use Rattle.serial.specs.Slave.{slaveStep, slaveEnd, motorolaSlave}
@@ -139,7 +139,7 @@ starts i k =
     }
 
 -- `slots n`: as many as one word and n more take to be received.
-pub record Exchange (sm ss : Settings) (b : ℕ) (i : Lines) (slots : ℕ → ℕ) : Type 0 where
+pub record Exchange (sm ss : Settings) (i : Lines) (slots : ℕ → ℕ) : Type 0 where
   -- the state after these slots
   pub last : ℕ → List ℕ → Receiver → List ℕ → Receiver → Two
   pub settled : (k : Queues) → Settled sm ss (starts i k)
@@ -147,6 +147,6 @@ pub record Exchange (sm ss : Settings) (b : ℕ) (i : Lines) (slots : ℕ → �
   pub run : (w : ℕ) (ws : List ℕ) (q : Receiver) (vs : List ℕ) (r : Receiver) → Trace (LiveSlot sm ss) (slotStep sm ss) (slots (length ws)) (starts i (holding (w ∷ ws) q vs r)) (last w ws q vs r)
   -- and the receive queues stay from there on
   pub ever : (w : ℕ) (ws : List ℕ) (q : Receiver) (vs : List ℕ) (r : Receiver) (n : ℕ)
-      → Holds (pushAll (map (cut b) (answers (w ∷ ws) vs)) q) (pushAll (map (cut b) (w ∷ ws)) r) (iterate n (coreCycle sm ss) (rested (last w ws q vs r)))
+      → Holds (pushAll (map (cut (captureWidth sm)) (answers (w ∷ ws) vs)) q) (pushAll (map (cut (widthOf sm)) (w ∷ ws)) r) (iterate n (coreCycle sm ss) (rested (last w ws q vs r)))
   -- with nothing to send nothing happens
   pub rest : (q : Receiver) (vs : List ℕ) (r : Receiver) → coreCycle sm ss (rested (starts i (holding [] q vs r))) ≡ rested (starts i (holding [] q vs r))

@@ -13,6 +13,7 @@ use Rattle.registers.specs.Transfer.{added}
 use Rattle.registers.specs.declared.settings.Settings.{Settings}
 use Rattle.serial.proofs.Trace.{iterate, iterate-add, iterate-fixed, trace-map, trace-run}
 use Rattle.serial.specs.Bits.{cut}
+use Rattle.serial.specs.Slots.{widthOf, captureWidth}
 use Rattle.serial.proofs.Exchange.Core.{Receiver, Pair, push, coreCycle}
 use Rattle.serial.proofs.Exchange.Settle.{Two, Lawful, rested, Meets, slots-trace}
 use Rattle.serial.proofs.Exchange.Moves.{LiveSlot}
@@ -51,7 +52,7 @@ pushed-kept (w ∷ ws) q l = go (λ q′ l′. pushed-kept ws q′ l′) (decLt 
 
 -- The end of a load ----------------------------------------------------------------------------------------------------
 
-module _ {sm ss : Settings} {b : ℕ} {i : Lines} {slots : ℕ → ℕ} (X : Exchange sm ss b i slots) (L : Lawful ss) (l : 6 ≤ sm .divisor .0) where
+module _ {sm ss : Settings} {i : Lines} {slots : ℕ → ℕ} (X : Exchange sm ss i slots) (L : Lawful ss) (l : 6 ≤ sm .divisor .0) where
   abbrev cycle : Pair → Pair
   cycle = coreCycle sm ss
 
@@ -70,7 +71,7 @@ module _ {sm ss : Settings} {b : ℕ} {i : Lines} {slots : ℕ → ℕ} (X : Exc
   load-run w ws q vs r = trace-run (slots-trace sm ss (λ x. Unit {0}) (λ x. Unit {0}) L l (X .settled (holding (w ∷ ws) q vs r)) (trace-map meets (X .run w ws q vs r)))
 
   pub has-received : (ws : List ℕ) (q : Receiver) (vs : List ℕ) (r : Receiver) (n : ℕ) → loadCycles ws ≤ n → length (q .held) ≤ 8 → length (r .held) ≤ 8
-      → Holds (kept (map (cut b) (answers ws vs)) q) (kept (map (cut b) ws) r) (iterate n cycle (begins ws q vs r))
+      → Holds (kept (map (cut (captureWidth sm)) (answers ws vs)) q) (kept (map (cut (widthOf sm)) ws) r) (iterate n cycle (begins ws q vs r))
   has-received [] q vs r n k p p′ =
       let e = iterate-fixed cycle (begins [] q vs r) (X .rest q vs r) n in
       (ap (λ (x : Pair). x .m .rx) e ∙ X .holds (holding [] q vs r) .0 ∙ sym (kept-nil q p), ap (λ (x : Pair). x .s .rx) e ∙ X .holds (holding [] q vs r) .1 ∙ sym (kept-nil r p′))
@@ -80,4 +81,4 @@ module _ {sm ss : Settings} {b : ℕ} {i : Lines} {slots : ℕ → ℕ} (X : Exc
       let e : iterate n cycle (begins (w ∷ ws) q vs r) ≡ iterate j cycle (rested (X .last w ws q vs r)) =
       ap (λ (x : ℕ). iterate x cycle (begins (w ∷ ws) q vs r)) total ∙ iterate-add cycle (loadCycles (w ∷ ws)) j (begins (w ∷ ws) q vs r) ∙ ap (iterate j cycle) (load-run w ws q vs r) in
       let h = X .ever w ws q vs r j in
-      (ap (λ (x : Pair). x .m .rx) e ∙ h .0 ∙ pushed-kept (map (cut b) (answers (w ∷ ws) vs)) q p, ap (λ (x : Pair). x .s .rx) e ∙ h .1 ∙ pushed-kept (map (cut b) (w ∷ ws)) r p′)
+      (ap (λ (x : Pair). x .m .rx) e ∙ h .0 ∙ pushed-kept (map (cut (captureWidth sm)) (answers (w ∷ ws) vs)) q p, ap (λ (x : Pair). x .s .rx) e ∙ h .1 ∙ pushed-kept (map (cut (widthOf sm)) (w ∷ ws)) r p′)

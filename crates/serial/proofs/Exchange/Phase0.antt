@@ -113,8 +113,8 @@ module _ (b h : ℕ) (l : 0 < b) (m : b ≤ 16) where
       ever false b h w (front vs) (b - 1) (push (cut b (front vs)) q) (rest vs) (push (cut b w) r) k (calm false b h (rest vs) (push (cut b w) r) false x′ false (bitOf b w (b - 1)) (bitOf b w (b - 1)) (ended false b h x′)) i
   last-ever k w (u ∷ ws) q vs r i = last-ever k u ws (push (cut b (front vs)) q) (rest vs) (push (cut b w) r) i
 
-  pub exchange : 6 ≤ h → Exchange (sm false b h) (ss false b h) b hidden (λ n. n * (2 * b + 4) + (2 * b + 2))
-  unfolding slaveSide slaveStep motorolaSlave slaveEnd slaveLines wire
+  pub exchange : 6 ≤ h → Exchange (sm false b h) (ss false b h) hidden (λ n. n * (2 * b + 4) + (2 * b + 2))
+  unfolding slaveSide slaveStep motorolaSlave slaveEnd slaveLines wire widthOf
   exchange k =
       record {
         last = lastOf b;

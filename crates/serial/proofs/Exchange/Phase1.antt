@@ -136,8 +136,8 @@ module _ (b h : ℕ) (l : 0 < b) (m : b ≤ 16) where
       ever true b h w v (b - 1) (push (cut b v) q) vs (push (cut b w) r) k (calm true b h vs (push (cut b w) r) false x′ false (bitOf b w (b - 1)) (bitOf b w (b - 1)) (ended true b h x′)) i
   last-ever k w v (u ∷ ws) q vs r i = last-ever k u (front vs) ws (push (cut b v) q) (rest vs) (push (cut b w) r) i
 
-  pub exchange : 6 ≤ h → Exchange (sm true b h) (ss true b h) b hidden (λ n. 2 * b * suc n + 2)
-  unfolding slaveSide slaveStep motorolaSlave slaveEnd slaveLines wire
+  pub exchange : 6 ≤ h → Exchange (sm true b h) (ss true b h) hidden (λ n. 2 * b * suc n + 2)
+  unfolding slaveSide slaveStep motorolaSlave slaveEnd slaveLines wire widthOf
   exchange k =
       record {
         last = λ w ws q vs r. lastOf b w (front vs) ws q (rest vs) r;

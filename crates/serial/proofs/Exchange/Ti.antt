@@ -383,8 +383,8 @@ module _ (phase : Bool) (b h : ℕ) where
     unfolding coreCycle masterSide acted masterStep masterEnd acting resting masterLines masterTxd slaveLines slaveEnd slaveStep tiSlave slaveSide wire
     idle-stays q vs r = refl
 
-    pub exchange : Exchange (plain Ti phase b h false) (plain Ti phase b h true) b (lined false false false true) (λ n. 2 * b * suc n + 2)
-    unfolding slaveSide slaveStep tiSlave slaveEnd slaveLines wire
+    pub exchange : Exchange (plain Ti phase b h false) (plain Ti phase b h true) (lined false false false true) (λ n. 2 * b * suc n + 2)
+    unfolding slaveSide slaveStep tiSlave slaveEnd slaveLines wire widthOf
     exchange =
         record {
           last = lastOf;
