@@ -10,6 +10,9 @@ pub mod Phase1
 pub mod Ti
 pub mod Finish
 pub mod Busy
+pub mod Turn
+pub mod Wiring
+pub mod Formats
 pub mod Project
 pub mod Lead
 pub mod Enable

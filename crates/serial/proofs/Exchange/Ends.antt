@@ -1,50 +1,37 @@
--- Motorola frames: their beginning and their end, as far as both phases share them; and what a format has to give.
+-- Motorola frames: their beginning and their end, as far as both phases share them.
 use Prim.Native.Nat.{ℕ, _+_, _*_, _≤_, _<_}
 use mathlib.Core.Path.{_≡_, refl, sym, ap, _∙_, subst}
 use mathlib.Core.Bool.{Bool, true, false, _&&_}
-use mathlib.Core.List.{List, [], _∷_, map}
+use mathlib.Core.List.{List, [], _∷_}
 use native.Mathlib.Omega.{arith}
-use lib.ListN.{length, getD}
 use borrow.Author.Tests.{ne-eqb, lt-ltb, le-ltb}
 use Rattle.registers.specs.Choose.{pick}
 use Rattle.registers.specs.Time.{cycles, slots}
-use Rattle.registers.specs.Transfer.{rest}
-use Rattle.registers.specs.declared.settings.Settings.{Settings}
+use Rattle.registers.specs.declared.settings.Format.the-variants.{Motorola}
 use Rattle.serial.specs.Bits.{bitOf, cut}
 use Rattle.serial.specs.Engine.{cleared, clearShift, noWord, loaded}
-use Rattle.serial.specs.Slots.{eventOf, motorolaEvent, lastSlot, widthOf, captureWidth}
+use Rattle.serial.specs.Slots.{eventOf, motorolaEvent, lastSlot}
 use Rattle.serial.specs.Lines.{masterLines, slaveLines, masterTxd}
-use Rattle.serial.specs.Master.{act, masterStep, masterEnd, acting, resting, dataBit}
+use Rattle.serial.specs.Master.{act, masterStep, acting, resting, dataBit}
 use Rattle.serial.specs.Slave.{slaveStep, slaveEnd, motorolaSlave}
 use Rattle.serial.specs.Pair.{wire}
 use Rattle.serial.proofs.Cycles.{waits, waits-cons}
-use Rattle.serial.proofs.Trace.{Trace, none, more, iterate, trace-ever}
-use Rattle.serial.proofs.Exchange.Core.{Receiver, Side, Pair, push, moved, acted, masterSide, slaveSide, coreCycle}
+use Rattle.serial.proofs.Trace.{none, more, iterate, trace-ever}
+use Rattle.serial.proofs.Exchange.Core.{Receiver, Side, moved, acted, slaveSide, coreCycle}
 use Rattle.serial.proofs.WithinSlot.{Live, nextSlot, sending, shifted}
-use Rattle.serial.proofs.Exchange.Settle.{Two, slotStep, rested, slots-trace, Settled}
+use Rattle.serial.proofs.Exchange.Settle.{Two, rested, slots-trace, Settled}
 use Rattle.serial.proofs.Exchange.Quiet.{lawful-motorola}
 use Rattle.serial.proofs.Events.{motorola-release, levels-first}
-use Rattle.serial.proofs.Exchange.Moves.{Queues, inFrame, hidden, acted-by, slave-by, Slot, slot-of, LiveSlot}
+use Rattle.serial.proofs.Exchange.Moves.{Queues, inFrame, hidden, acted-by, slave-by, Slot, slot-of}
+use Rattle.serial.proofs.Exchange.Wiring.{holding, Holds, starts, Still, idle-stays}
 use Rattle.serial.proofs.Exchange.Motorola.{sm, ss, filledAt, lines-first}
 use Rattle.serial.specs.declared.engine.Engine.{Engine}
 use Rattle.serial.specs.declared.engine.Step.{Step}
-use Rattle.serial.specs.declared.lines.Lines.{Lines}
 use Rattle.serial.specs.declared.slots.Event.the-variants.{Release}
-
--- the oldest word to send, zero if there is none
-abbrev pub front : List ℕ → ℕ
-front vs = getD vs 0 0
 
 -- between frames
 abbrev pub idle : Queues → Two
-idle k =
-    record {
-      m = record { tx = k .mtx; rx = k .mrx; engine = cleared; lines = hidden };
-      s = record { tx = k .stx; rx = k .srx; engine = cleared; lines = hidden };
-    }
-
-abbrev pub holding : List ℕ → Receiver → List ℕ → Receiver → Queues
-holding ws q vs r = record { mtx = ws; mrx = q; stx = vs; srx = r }
+idle = starts hidden
 
 -- an idle master with a waiting word starts slot 0
 abbrev pub opened : ℕ → List ℕ → Receiver → Side
@@ -91,15 +78,9 @@ module _ (phase : Bool) (b h : ℕ) (k : Queues) where
       (rw (le-ltb n (2 * b + 3) (omega arith)))
       refl refl refl
 
--- the pair at rest with nothing to send
-pub idle-stays : (phase : Bool) (b h : ℕ) (q : Receiver) (vs : List ℕ) (r : Receiver)
-    → coreCycle (sm phase b h) (ss phase b h) (rested (idle (holding [] q vs r))) ≡ rested (idle (holding [] q vs r))
-unfolding coreCycle masterSide acted masterStep masterEnd acting resting masterLines masterTxd slaveLines slaveEnd slaveStep motorolaSlave slaveSide wire
-idle-stays phase b h q vs r = refl
-
--- What both receive queues hold.
-abbrev pub Holds : Receiver → Receiver → Pair → Type 0
-Holds q r p = (p .m .rx ≡ q) × (p .s .rx ≡ r)
+pub still-motorola : (phase : Bool) (b h : ℕ) → Still Motorola phase b h
+unfolding slaveStep motorolaSlave wire
+still-motorola phase b h n = refl
 
 -- from the last capture on nothing changes in the receive queues
 pub ever : (phase : Bool) (b h w v c : ℕ) (q : Receiver) (vs : List ℕ) (r : Receiver) → 6 ≤ h → Settled (sm phase b h) (ss phase b h) (filledAt b w v (holding [] q vs r) c false (2 * b + 2))
@@ -115,38 +96,5 @@ ever phase b h w v c q vs r l z i =
     (more (record { live = subst (λ (x : Side). Live (x .engine)) (sym (one .acts)) (ne-eqb (2 * b + 2) 0 (omega arith)); before = refl; during = λ j. ap (λ (x : Side). x .rx) (one .acts); slave = refl; sees = one .gets; rests = ap (λ (t : Two). t .s .rx) (one .steps) }) (one .steps)
     (more (record { live = subst (λ (x : Side). Live (x .engine)) (sym (two .acts)) (ne-eqb (2 * b + 2 + 1) 0 (omega arith)); before = refl; during = λ j. ap (λ (x : Side). x .rx) (two .acts); slave = refl; sees = two .gets; rests = ap (λ (t : Two). t .s .rx) (two .steps) }) (two .steps) none)))
     (refl, refl)
-    (idle-stays phase b h q vs r)
+    (idle-stays Motorola phase b h (still-motorola phase b h) q vs r)
     i
-
--- What a format gives -------------------------------------------------------------------------------------------------
-
--- the receive queues after a load of ws against vs, oldest first
-abbrev pub pushAll : List ℕ → Receiver → Receiver
-pushAll [] q = q
-pushAll (w ∷ ws) q = pushAll ws (push w q)
-
--- as many words of vs as ws has, then zeros
-abbrev pub answers : List ℕ → List ℕ → List ℕ
-answers [] vs = []
-answers (w ∷ ws) vs = front vs ∷ answers ws (rest vs)
-
--- between frames, with the master's idle lines
-abbrev pub starts : Lines → Queues → Two
-starts i k =
-    record {
-      m = record { tx = k .mtx; rx = k .mrx; engine = cleared; lines = i };
-      s = record { tx = k .stx; rx = k .srx; engine = cleared; lines = hidden };
-    }
-
--- `slots n`: as many as one word and n more take to be received.
-pub record Exchange (sm ss : Settings) (i : Lines) (slots : ℕ → ℕ) : Type 0 where
-  -- the state after these slots
-  pub last : ℕ → List ℕ → Receiver → List ℕ → Receiver → Two
-  pub settled : (k : Queues) → Settled sm ss (starts i k)
-  pub holds : (k : Queues) → Holds (k .mrx) (k .srx) (rested (starts i k))
-  pub run : (w : ℕ) (ws : List ℕ) (q : Receiver) (vs : List ℕ) (r : Receiver) → Trace (LiveSlot sm ss) (slotStep sm ss) (slots (length ws)) (starts i (holding (w ∷ ws) q vs r)) (last w ws q vs r)
-  -- and the receive queues stay from there on
-  pub ever : (w : ℕ) (ws : List ℕ) (q : Receiver) (vs : List ℕ) (r : Receiver) (n : ℕ)
-      → Holds (pushAll (map (cut (captureWidth sm)) (answers (w ∷ ws) vs)) q) (pushAll (map (cut (widthOf sm)) (w ∷ ws)) r) (iterate n (coreCycle sm ss) (rested (last w ws q vs r)))
-  -- with nothing to send nothing happens
-  pub rest : (q : Receiver) (vs : List ℕ) (r : Receiver) → coreCycle sm ss (rested (starts i (holding [] q vs r))) ≡ rested (starts i (holding [] q vs r))

@@ -12,17 +12,18 @@ use Rattle.serial.specs.Engine.{noWord, begun, loaded, started, driven}
 use Rattle.serial.specs.Slots.{eventOf, lastSlot, widthOf}
 use Rattle.serial.specs.Lines.{slaveLines}
 use Rattle.serial.specs.Master.{dataBit}
-use Rattle.serial.specs.Slave.{slaveStep, slaveEnd, motorolaSlave, motorolaSelect, motorolaEdges, captureEdge, driveEdge, motorolaClock}
+use Rattle.serial.specs.Slave.{slaveStep, motorolaSlave, motorolaSelect, motorolaEdges, captureEdge, driveEdge, motorolaClock}
 use Rattle.serial.specs.Pair.{wire}
 use Rattle.serial.proofs.WithinSlot.{sending, shifted}
 use Rattle.serial.proofs.Trace.{Trace, none, iterate, trace-count, trace-then, trace-end}
 use Rattle.serial.proofs.Top.{top-zero}
-use Rattle.serial.proofs.Exchange.Core.{Receiver, push, slaveSide, coreCycle}
+use Rattle.serial.proofs.Exchange.Core.{Receiver, push, coreCycle}
 use Rattle.serial.proofs.Exchange.Settle.{Two, rested}
 use Rattle.serial.proofs.Events.{motorola-drive, motorola-last, levels-drive, levels-last}
 use Rattle.serial.proofs.Exchange.Moves.{Queues, inFrame, shown, hidden, acted-by, next-in, slave-by, Slot, slot-of, LiveSlot, slot-then}
 use Rattle.serial.proofs.Exchange.Motorola.{sm, ss, step, chosen, drivenAt, filledAt, received, lines-at, in-word, calm, ended, word-run}
-use Rattle.serial.proofs.Exchange.Ends.{front, idle, holding, opened, begin-acts, release-slot, pause-slot, ever, idle-stays, pushAll, answers, Holds, Exchange}
+use Rattle.serial.proofs.Exchange.Wiring.{front, holding, pushAll, answers, Holds, Exchange}
+use Rattle.serial.proofs.Exchange.Ends.{idle, opened, begin-acts, release-slot, pause-slot, ever}
 use Rattle.serial.specs.declared.slots.Event.the-variants.{Drive, Pause}
 
 -- both words are taken, the slave's first bit is on its line
@@ -114,13 +115,5 @@ module _ (b h : ℕ) (l : 0 < b) (m : b ≤ 16) where
   last-ever k w (u ∷ ws) q vs r i = last-ever k u ws (push (cut b (front vs)) q) (rest vs) (push (cut b w) r) i
 
   pub exchange : 6 ≤ h → Exchange (sm false b h) (ss false b h) hidden (λ n. n * (2 * b + 4) + (2 * b + 2))
-  unfolding slaveSide slaveStep motorolaSlave slaveEnd slaveLines wire widthOf
-  exchange k =
-      record {
-        last = lastOf b;
-        settled = λ k. refl;
-        holds = λ k. (refl, refl);
-        run = load-run;
-        ever = last-ever k;
-        rest = idle-stays false b h;
-      }
+  unfolding widthOf
+  exchange k = record { last = lastOf b; run = load-run; ever = last-ever k }

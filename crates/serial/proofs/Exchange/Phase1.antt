@@ -13,18 +13,19 @@ use Rattle.serial.specs.Engine.{clearShift, noWord, begun, loaded, start
 use Rattle.serial.specs.Slots.{eventOf, lastSlot, widthOf}
 use Rattle.serial.specs.Lines.{slaveLines}
 use Rattle.serial.specs.Master.{dataBit}
-use Rattle.serial.specs.Slave.{slaveStep, slaveEnd, motorolaSlave, motorolaSelect, motorolaEdges, captureEdge, driveEdge, motorolaClock}
+use Rattle.serial.specs.Slave.{slaveStep, motorolaSlave, motorolaSelect, motorolaEdges, captureEdge, driveEdge, motorolaClock}
 use Rattle.serial.specs.Pair.{wire}
 use Rattle.serial.proofs.Cycles.{waits-cons}
 use Rattle.serial.proofs.WithinSlot.{sending, shifted}
 use Rattle.serial.proofs.Trace.{Trace, none, iterate, trace-count, trace-then, trace-end}
 use Rattle.serial.proofs.Top.{top-zero}
-use Rattle.serial.proofs.Exchange.Core.{Receiver, Side, push, slaveSide, coreCycle}
+use Rattle.serial.proofs.Exchange.Core.{Receiver, Side, push, coreCycle}
 use Rattle.serial.proofs.Exchange.Settle.{Two, rested}
 use Rattle.serial.proofs.Events.{motorola-drive, motorola-last, levels-drive, levels-last}
 use Rattle.serial.proofs.Exchange.Moves.{Queues, inFrame, shown, hidden, acted-by, next-in, slave-by, Slot, slot-of, LiveSlot, slot-then}
 use Rattle.serial.proofs.Exchange.Motorola.{sm, ss, step, chosen, drivenAt, filledAt, received, lines-at, in-word, calm, ended, word-run}
-use Rattle.serial.proofs.Exchange.Ends.{front, idle, holding, opened, begin-acts, ever, idle-stays, pushAll, answers, Holds, Exchange}
+use Rattle.serial.proofs.Exchange.Wiring.{front, holding, pushAll, answers, Holds, Exchange}
+use Rattle.serial.proofs.Exchange.Ends.{idle, opened, begin-acts, ever}
 use Rattle.serial.specs.declared.engine.Shift.{Shift}
 use Rattle.serial.specs.declared.slots.Event.the-variants.{Drive, Chain}
 
@@ -137,13 +138,5 @@ module _ (b h : ℕ) (l : 0 < b) (m : b ≤ 16) where
   last-ever k w v (u ∷ ws) q vs r i = last-ever k u (front vs) ws (push (cut b v) q) (rest vs) (push (cut b w) r) i
 
   pub exchange : 6 ≤ h → Exchange (sm true b h) (ss true b h) hidden (λ n. 2 * b * suc n + 2)
-  unfolding slaveSide slaveStep motorolaSlave slaveEnd slaveLines wire widthOf
-  exchange k =
-      record {
-        last = λ w ws q vs r. lastOf b w (front vs) ws q (rest vs) r;
-        settled = λ k. refl;
-        holds = λ k. (refl, refl);
-        run = load-run;
-        ever = λ w ws q vs r. last-ever k w (front vs) ws q (rest vs) r;
-        rest = idle-stays true b h;
-      }
+  unfolding widthOf
+  exchange k = record { last = λ w ws q vs r. lastOf b w (front vs) ws q (rest vs) r; run = load-run; ever = λ w ws q vs r. last-ever k w (front vs) ws q (rest vs) r }

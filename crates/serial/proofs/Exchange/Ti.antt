@@ -29,7 +29,7 @@ use Rattle.serial.proofs.Exchange.Quiet.{quiet-ti}
 use Rattle.serial.proofs.Events.{lowAt, ti-drive, ti-capture, ti-last, ti-levels-even, ti-levels-odd}
 use Rattle.serial.proofs.Exchange.Moves.{Queues, shown, hidden, acted-by, next-in, capture-in, completed, capture-last, slave-by, Slot, slot-of, LiveSlot, slot-then}
 use Rattle.serial.proofs.Exchange.Motorola.{received, next-bit, last-bit}
-use Rattle.serial.proofs.Exchange.Ends.{front, holding, pushAll, answers, Holds, Exchange}
+use Rattle.serial.proofs.Exchange.Wiring.{front, holding, pushAll, answers, Holds, starts, Exchange}
 use Rattle.serial.specs.declared.engine.Engine.{Engine}
 use Rattle.serial.specs.declared.engine.Shift.{Shift}
 use Rattle.serial.specs.declared.engine.Step.{Step}
@@ -105,11 +105,7 @@ module _ (phase : Bool) (b h : ℕ) where
   -- The states -----------------------------------------------------------------------------------------------------------
 
   abbrev idle : Queues → Two
-  idle k =
-      record {
-        m = record { tx = k .mtx; rx = k .mrx; engine = cleared; lines = tiIdle };
-        s = record { tx = k .stx; rx = k .srx; engine = cleared; lines = hidden };
-      }
+  idle = starts tiIdle
 
   -- slot 0 of a first word is over
   abbrev openedAt : ℕ → Queues → Two
@@ -379,18 +375,6 @@ module _ (phase : Bool) (b h : ℕ) where
         done-ever i (push (cut b (front vs)) q) (rest vs) (push (cut b w) r) d false false (d && true) false (d && true) false (d && true)
     last-ever w (u ∷ ws) q vs r i = last-ever u ws (push (cut b (front vs)) q) (rest vs) (push (cut b w) r) i
 
-    idle-stays : (q : Receiver) (vs : List ℕ) (r : Receiver) → coreCycle sm ss (rested (idle (holding [] q vs r))) ≡ rested (idle (holding [] q vs r))
-    unfolding coreCycle masterSide acted masterStep masterEnd acting resting masterLines masterTxd slaveLines slaveEnd slaveStep tiSlave slaveSide wire
-    idle-stays q vs r = refl
-
     pub exchange : Exchange (plain Ti phase b h false) (plain Ti phase b h true) (lined false false false true) (λ n. 2 * b * suc n + 2)
-    unfolding slaveSide slaveStep tiSlave slaveEnd slaveLines wire widthOf
-    exchange =
-        record {
-          last = lastOf;
-          settled = λ k. refl;
-          holds = λ k. (refl, refl);
-          run = load-run;
-          ever = last-ever;
-          rest = idle-stays;
-        }
+    unfolding widthOf
+    exchange = record { last = lastOf; run = load-run; ever = last-ever }
