@@ -34,10 +34,10 @@ use Rattle.serial.proofs.Exchange.Core.{Receiver, Pair, plain, coreCycl
 use Rattle.serial.proofs.Exchange.Settle.{rested}
 use Rattle.serial.proofs.Exchange.Moves.{hidden}
 use Rattle.serial.proofs.Exchange.Turn.{given, turns, turnPins, turnLines, idle-plain, wire-plain}
-use Rattle.serial.proofs.Exchange.Wiring.{holding, starts, answers, Wiring, slave-hidden, still-given}
+use Rattle.serial.proofs.Exchange.Wiring.{holding, starts, Wiring, slave-hidden, still-given}
 use Rattle.serial.proofs.Exchange.Formats.{wiring-of}
 use Rattle.serial.proofs.Exchange.Busy.{pair-busy, pair-free}
-use Rattle.serial.proofs.Exchange.Finish.{loadCycles, has-received}
+use Rattle.serial.proofs.Exchange.Finish.{answers, loadCycles, has-received}
 use Rattle.serial.proofs.Exchange.Project.{coreOf, rxOf, Paired, commutes}
 use Rattle.serial.proofs.Exchange.Lead.{Lead, lead-steps, lead-write₁, lead-write₂, engine-on}
 use Rattle.serial.proofs.Exchange.Enable.{switchedOn, settings-on, control-on}

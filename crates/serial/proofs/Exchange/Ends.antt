@@ -1,5 +1,5 @@
 -- Motorola frames: their beginning and their end, as far as both phases share them.
-use Prim.Native.Nat.{ℕ, _+_, _*_, _≤_, _<_}
+use Prim.Native.Nat.{ℕ, _+_, _-_, _*_, _≤_, _<_}
 use mathlib.Core.Path.{_≡_, refl, sym, ap, _∙_, subst}
 use mathlib.Core.Bool.{Bool, true, false, _&&_}
 use mathlib.Core.List.{List, [], _∷_}
@@ -7,6 +7,7 @@ use native.Mathlib.Omega.{arith}
 use borrow.Author.Tests.{ne-eqb, lt-ltb, le-ltb}
 use Rattle.registers.specs.Choose.{pick}
 use Rattle.registers.specs.Time.{cycles, slots}
+use Rattle.registers.specs.Transfer.{rest}
 use Rattle.registers.specs.declared.settings.Format.the-variants.{Motorola}
 use Rattle.serial.specs.Bits.{bitOf, cut}
 use Rattle.serial.specs.Engine.{cleared, clearShift, noWord, loaded}
@@ -17,14 +18,14 @@ use Rattle.serial.specs.Slave.{slaveStep, slaveEnd, motorolaSlave}
 use Rattle.serial.specs.Pair.{wire}
 use Rattle.serial.proofs.Cycles.{waits, waits-cons}
 use Rattle.serial.proofs.Trace.{none, more, iterate, trace-ever}
-use Rattle.serial.proofs.Exchange.Core.{Receiver, Side, moved, acted, slaveSide, coreCycle}
+use Rattle.serial.proofs.Exchange.Core.{Receiver, Side, push, moved, acted, slaveSide, coreCycle}
 use Rattle.serial.proofs.WithinSlot.{Live, nextSlot, sending, shifted}
-use Rattle.serial.proofs.Exchange.Settle.{Two, rested, slots-trace, Settled}
+use Rattle.serial.proofs.Exchange.Settle.{Two, rested, slots-trace}
 use Rattle.serial.proofs.Exchange.Quiet.{lawful-motorola}
 use Rattle.serial.proofs.Events.{motorola-release, levels-first}
 use Rattle.serial.proofs.Exchange.Moves.{Queues, inFrame, hidden, acted-by, slave-by, Slot, slot-of}
-use Rattle.serial.proofs.Exchange.Wiring.{holding, Holds, starts, Still, idle-stays}
-use Rattle.serial.proofs.Exchange.Motorola.{sm, ss, filledAt, lines-first}
+use Rattle.serial.proofs.Exchange.Wiring.{front, holding, Holds, starts, Still, idle-stays}
+use Rattle.serial.proofs.Exchange.Motorola.{sm, ss, filledAt, received, lines-first, calm, ended}
 use Rattle.serial.specs.declared.engine.Engine.{Engine}
 use Rattle.serial.specs.declared.engine.Step.{Step}
 use Rattle.serial.specs.declared.slots.Event.the-variants.{Release}
@@ -82,11 +83,21 @@ pub still-motorola : (phase : Bool) (b h : ℕ) → Still Motorola phase b h
 unfolding slaveStep motorolaSlave wire
 still-motorola phase b h n = refl
 
+-- the last word is through
+abbrev pub finalAt : ℕ → ℕ → Receiver → List ℕ → Receiver → Two
+finalAt b w q vs r = filledAt b w (front vs) (received b w (front vs) (holding [] q (rest vs) r)) (b - 1) false (2 * b + 2)
+
 -- from the last capture on nothing changes in the receive queues
-pub ever : (phase : Bool) (b h w v c : ℕ) (q : Receiver) (vs : List ℕ) (r : Receiver) → 6 ≤ h → Settled (sm phase b h) (ss phase b h) (filledAt b w v (holding [] q vs r) c false (2 * b + 2))
-    → (i : ℕ) → Holds q r (iterate i (coreCycle (sm phase b h) (ss phase b h)) (rested (filledAt b w v (holding [] q vs r) c false (2 * b + 2))))
-ever phase b h w v c q vs r l z i =
-    let k = holding [] q vs r in
+pub ever : (phase : Bool) (b h : ℕ) → 6 ≤ h → (w : ℕ) (q : Receiver) (vs : List ℕ) (r : Receiver) (i : ℕ)
+    → Holds (push (cut b (front vs)) q) (push (cut b w) r) (iterate i (coreCycle (sm phase b h) (ss phase b h)) (rested (finalAt b w q vs r)))
+ever phase b h l w q₀ vs r₀ i =
+    let v = front vs in
+    let c = b - 1 in
+    let q = push (cut b v) q₀ in
+    let r = push (cut b w) r₀ in
+    let k = holding [] q (rest vs) r in
+    let x′ = shifted (c + 1) (bitOf b v c) v (cut b w) in
+    let z = calm phase b h (rest vs) r false x′ false (bitOf b w c) (bitOf b w c) (ended phase b h x′) in
     let QM : Side → Type 0 = λ x. x .rx ≡ q in
     let QS : Side → Type 0 = λ x. x .rx ≡ r in
     let one = release-slot phase b h k w v c (2 * b + 2) refl in
@@ -96,5 +107,5 @@ ever phase b h w v c q vs r l z i =
     (more (record { live = subst (λ (x : Side). Live (x .engine)) (sym (one .acts)) (ne-eqb (2 * b + 2) 0 (omega arith)); before = refl; during = λ j. ap (λ (x : Side). x .rx) (one .acts); slave = refl; sees = one .gets; rests = ap (λ (t : Two). t .s .rx) (one .steps) }) (one .steps)
     (more (record { live = subst (λ (x : Side). Live (x .engine)) (sym (two .acts)) (ne-eqb (2 * b + 2 + 1) 0 (omega arith)); before = refl; during = λ j. ap (λ (x : Side). x .rx) (two .acts); slave = refl; sees = two .gets; rests = ap (λ (t : Two). t .s .rx) (two .steps) }) (two .steps) none)))
     (refl, refl)
-    (idle-stays Motorola phase b h (still-motorola phase b h) q vs r)
+    (idle-stays Motorola phase b h (still-motorola phase b h) q (rest vs) r)
     i

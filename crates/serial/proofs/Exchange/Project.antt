@@ -16,6 +16,8 @@ use Rattle.serial.specs.Master.{masterStep}
 use Rattle.serial.specs.Slave.{slaveStep, slaveEnd}
 use Rattle.serial.specs.Cycle.{DeviceModel, stepOf, endOf, takeIf, receiveIf, deviceStep, completedOf, cycleOf}
 use Rattle.serial.specs.Pair.{wire, PairModel, pairCycle}
+use Rattle.serial.specs.Demand3.{completed}
+use Rattle.serial.specs.Demand3.Which.{master, slave}
 use Rattle.serial.proofs.Cycles.{step-tx, waits}
 use Rattle.serial.proofs.Exchange.Core.{Receiver, Side, Pair, plain, push, moved, withEngine, acted, masterSide, slaveSide, coreCycle}
 use Rattle.serial.proofs.Exchange.Turn.{given, turns, turnPins, turnLines, turn-twice, turn-pins-twice, step-plain, end-plain, lines-plain}
@@ -48,13 +50,6 @@ sideOf p log d = record { tx = d .registers .tx; rx = rxOf (d .registers) log; e
 
 abbrev pub historyOf : Bool → History → History
 historyOf p h = record { newest = turnPins p (h .newest); middle = turnPins p (h .middle); oldest = turnPins p (h .oldest) }
-
--- the words completed in a pair cycle
-abbrev pub firstGets : PairModel → List ℕ
-firstGets g = completedOf (g .first) (wire (g .second .lines))
-
-abbrev pub secondGets : PairModel → List ℕ
-secondGets g = completedOf (g .second) (wire (g .first .lines))
 
 -- the lines of a slave have no clock to turn
 abbrev pub coreOf : Bool → List ℕ → List ℕ → PairModel → Pair
@@ -125,7 +120,7 @@ side-cycle q l d x s r e a =
     (step-tx m (r .takes) (r .complete) (r .word) (endOf s (r .engine) .frame)) (step-rx m (r .takes) (r .complete) (r .word) (endOf s (r .engine) .frame) l)
 
 module _ {f : Format} {phase p : Bool} {b h k : ℕ} {o : Bool} (g : PairModel) (P : Paired f phase p b h k o g) (l j : List ℕ) where
-  first-side : sideOf (turns f p) (l ++ firstGets g) (pairCycle g .first) ≡ masterSide (plain f phase b h false) (sideOf (turns f p) l (g .first)) (wire (g .second .lines) .rxd)
+  first-side : sideOf (turns f p) (l ++ completed master g) (pairCycle g .first) ≡ masterSide (plain f phase b h false) (sideOf (turns f p) l (g .first)) (wire (g .second .lines) .rxd)
   unfolding pairCycle endOf linesOf masterSide acted
   first-side =
       let x = wire (g .second .lines) in
@@ -136,7 +131,7 @@ module _ {f : Format} {phase p : Bool} {b h k : ℕ} {o : Bool} (g : PairModel) 
       ∙ ap₂ (λ (e : Engine) (z : Lines). withEngine (moved r y z) e) (end-plain f phase p b h o (r .engine))
       (ap (turnLines (turns f p)) (lines-plain f phase p b h o (r .engine)) ∙ turn-twice (turns f p) (masterLines (plain f phase b h false) (r .engine)))
 
-  second-side : sideOf false (j ++ secondGets g) (pairCycle g .second)
+  second-side : sideOf false (j ++ completed slave g) (pairCycle g .second)
       ≡ slaveSide (plain f phase b h true) (historyOf (turns f p) (g .second .pins) .oldest) (historyOf (turns f p) (g .second .pins) .middle) (sideOf false j (g .second))
   unfolding pairCycle endOf linesOf slaveSide slaveLines slaveEnd
   second-side =
@@ -147,7 +142,7 @@ module _ {f : Format} {phase p : Bool} {b h k : ℕ} {o : Bool} (g : PairModel) 
       side-cycle false j (g .second) x s r (P .slave) (second-step g P x)
 
   -- a pair cycle, projected
-  pub commutes : coreOf (turns f p) (l ++ firstGets g) (j ++ secondGets g) (pairCycle g) ≡ coreCycle (plain f phase b h false) (plain f phase b h true) (coreOf (turns f p) l j g)
+  pub commutes : coreOf (turns f p) (l ++ completed master g) (j ++ completed slave g) (pairCycle g) ≡ coreCycle (plain f phase b h false) (plain f phase b h true) (coreOf (turns f p) l j g)
   unfolding coreCycle wire pairCycle cycleOf
   commutes =
       ap₂ (λ (m s : Side). record { m = m; s = s; h = historyOf (turns f p) (pairCycle g .second .pins) }) first-side second-side

@@ -2,7 +2,7 @@
 use Prim.Native.Nat.{ℕ, suc, _*_, _≤_}
 use mathlib.Core.Path.{_≡_, refl, ap, _∙_}
 use mathlib.Core.Bool.{Bool, true, false, not, _&&_}
-use mathlib.Core.List.{List, [], _∷_, map}
+use mathlib.Core.List.{List, [], _∷_}
 use lib.ListN.{length, getD}
 use Rattle.registers.specs.Time.{divisor}
 use Rattle.registers.specs.Transfer.{rest}
@@ -32,16 +32,6 @@ front vs = getD vs 0 0
 
 abbrev pub holding : List ℕ → Receiver → List ℕ → Receiver → Queues
 holding ws q vs r = record { mtx = ws; mrx = q; stx = vs; srx = r }
-
--- the receive queues after a load of ws against vs, oldest first
-abbrev pub pushAll : List ℕ → Receiver → Receiver
-pushAll [] q = q
-pushAll (w ∷ ws) q = pushAll ws (push w q)
-
--- as many words of vs as ws has, then zeros
-abbrev pub answers : List ℕ → List ℕ → List ℕ
-answers [] vs = []
-answers (w ∷ ws) vs = front vs ∷ answers ws (rest vs)
 
 -- What both receive queues hold.
 abbrev pub Holds : Receiver → Receiver → Pair → Type 0
@@ -91,14 +81,20 @@ module _ (f : Format) (phase : Bool) (b h : ℕ) (still : Still f phase b h) whe
 
 -- What a format gives ------------------------------------------------------------------------------------------------
 
+-- The state after a load, by that after its last word: the words before it are received, cut to c bits in the master and to d in the slave.
+abbrev pub lastOf : ℕ → ℕ → (ℕ → Receiver → List ℕ → Receiver → Two) → ℕ → List ℕ → Receiver → List ℕ → Receiver → Two
+lastOf c d final w [] q vs r = final w q vs r
+lastOf c d final w (u ∷ ws) q vs r = lastOf c d final u ws (push (cut c (front vs)) q) (rest vs) (push (cut d w) r)
+
 -- The exchange of a load from the idle lines i. `slots n`: as many as one word and n more take to be received.
 pub record Exchange (sm ss : Settings) (i : Lines) (slots : ℕ → ℕ) : Type 0 where
-  -- the state after these slots
-  pub last : ℕ → List ℕ → Receiver → List ℕ → Receiver → Two
-  pub run : (w : ℕ) (ws : List ℕ) (q : Receiver) (vs : List ℕ) (r : Receiver) → Trace (LiveSlot sm ss) (slotStep sm ss) (slots (length ws)) (starts i (holding (w ∷ ws) q vs r)) (last w ws q vs r)
-  -- and the receive queues stay from there on
-  pub ever : (w : ℕ) (ws : List ℕ) (q : Receiver) (vs : List ℕ) (r : Receiver) (n : ℕ)
-      → Holds (pushAll (map (cut (captureWidth sm)) (answers (w ∷ ws) vs)) q) (pushAll (map (cut (widthOf sm)) (w ∷ ws)) r) (iterate n (coreCycle sm ss) (rested (last w ws q vs r)))
+  -- the state after the last word
+  pub final : ℕ → Receiver → List ℕ → Receiver → Two
+  pub run : (w : ℕ) (ws : List ℕ) (q : Receiver) (vs : List ℕ) (r : Receiver)
+      → Trace (LiveSlot sm ss) (slotStep sm ss) (slots (length ws)) (starts i (holding (w ∷ ws) q vs r)) (lastOf (captureWidth sm) (widthOf sm) final w ws q vs r)
+  -- and from there on the receive queues have it
+  pub ever : (w : ℕ) (q : Receiver) (vs : List ℕ) (r : Receiver) (n : ℕ)
+      → Holds (push (cut (captureWidth sm) (front vs)) q) (push (cut (widthOf sm) w) r) (iterate n (coreCycle sm ss) (rested (final w q vs r)))
 
 -- A format with its phase, b bits and h cycles a slot.
 pub record Wiring (f : Format) (phase : Bool) (b h : ℕ) : Type 0 where
