@@ -93,10 +93,10 @@ module _ (f : Format) (phase p : Bool) (b h k : ℕ) (o : Bool) (c₁ c₂ : Con
 
   core-start : coreOf (turns f p) [] [] g ≡ rested (starts (idleOn f false) (holding (load master g) (rxOf (g .first .registers) []) (load slave g) (rxOf (g .second .registers) [])))
   core-start =
-      let e₁ = L .engine₁ (omega arith) in
-      let e₂ = L .engine₂ (omega arith) in
-      let l₁ = ap (turnLines (turns f p)) (L .lines₁ (omega arith)) ∙ idle-plain f p in
-      let l₂ = ap (turnLines false) (L .lines₂ (omega arith)) in
+      let e₁ = L .first .engine (omega arith) in
+      let e₂ = L .second .engine (omega arith) in
+      let l₁ = ap (turnLines (turns f p)) (L .first .lines (omega arith)) ∙ idle-plain f p in
+      let l₂ = ap (turnLines false) (L .second .lines (omega arith)) in
       let x = ap (turnPins (turns f p)) (L .newest (omega arith)) ∙ wire-plain f p in
       let y = ap (turnPins (turns f p)) (L .middle (omega arith)) ∙ wire-plain f p in
       let z = ap (turnPins (turns f p)) (L .oldest (omega arith)) ∙ wire-plain f p in
@@ -118,15 +118,15 @@ module _ (f : Format) (phase p : Bool) (b h k : ℕ) (o : Bool) (c₁ c₂ : Con
   fresh : Fresh (settingsOf (controlOf master g)) (g .first)
   unfolding settingsOf
   fresh =
-      let e = L .engine₁ (omega arith) in
-      fresh-sound (g .first) (L .sound₁) (ap (λ (s : Settings). s .enabled) (P .master)) (ap (λ (s : Settings). s .slave) (P .master))
+      let e = L .first .engine (omega arith) in
+      fresh-sound (g .first) (L .first .sound) (ap (λ (s : Settings). s .enabled) (P .master)) (ap (λ (s : Settings). s .slave) (P .master))
       (record { frame = ap (λ (x : Engine). x .frame) e; slot = ap (λ (x : Engine). x .slot .0) e; elapsed = ap (λ (x : Engine). x .elapsed .0) e })
 
   held-small₁ : length (held master g) ≤ 8
-  held-small₁ = sound-elim (g .first .registers) (sound-registers (g .first) (L .sound₁)) .rx
+  held-small₁ = sound-elim (g .first .registers) (sound-registers (g .first) (L .first .sound)) .rx
 
   held-small₂ : length (held slave g) ≤ 8
-  held-small₂ = sound-elim (g .second .registers) (sound-registers (g .second) (L .sound₂)) .rx
+  held-small₂ = sound-elim (g .second .registers) (sound-registers (g .second) (L .second .sound)) .rx
 
   in-time : (j : ℕ) → loadCycles (P .wiring) slow (load master g) ≤ until + j
   in-time j = omega (arith, received-busy (P .wiring) slow (load master g))
@@ -138,7 +138,7 @@ module _ (f : Format) (phase p : Bool) (b h k : ℕ) (o : Bool) (c₁ c₂ : Con
       record {
         words = ap (λ (x : Receiver). x .log) r ∙ d;
         queue = ap (λ (x : Receiver). x .held) r ∙ ap (λ (x : List ℕ). take 8 (held master g ++ x)) d;
-        overrun = ap (λ (x : Receiver). x .ror) r ∙ ap₂ (λ (t : Bool) (x : List ℕ). t || ltb 8 (length (held master g ++ x))) (L .ror₁) d;
+        overrun = ap (λ (x : Receiver). x .ror) r ∙ ap₂ (λ (t : Bool) (x : List ℕ). t || ltb 8 (length (held master g ++ x))) (L .first .ror) d;
       }
 
   slave-gets : (j : ℕ) → Received (given f phase p b h false o) (until + j) slave g
@@ -148,7 +148,7 @@ module _ (f : Format) (phase p : Bool) (b h k : ℕ) (o : Bool) (c₁ c₂ : Con
       record {
         words = ap (λ (x : Receiver). x .log) r;
         queue = ap (λ (x : Receiver). x .held) r;
-        overrun = ap (λ (x : Receiver). x .ror) r ∙ ap (λ (t : Bool). t || ltb 8 (length (held slave g ++ map (cut (widthOf (given f phase p b h false o))) (load master g)))) (L .ror₂);
+        overrun = ap (λ (x : Receiver). x .ror) r ∙ ap (λ (t : Bool). t || ltb 8 (length (held slave g ++ map (cut (widthOf (given f phase p b h false o))) (load master g)))) (L .second .ror);
       }
 
   pub exchanged-at : Exchanged g
@@ -254,16 +254,8 @@ module _ (p : PairModel) (st : Start p) where
   lead-start : Lead i hidden (controlOf master p) (controlOf slave p) 0 p
   lead-start =
       record {
-        control₁ = refl;
-        control₂ = refl;
-        sound₁ = st .sound-master;
-        sound₂ = st .sound-slave;
-        ror₁ = st .clear-master;
-        ror₂ = st .clear-slave;
-        engine₁ = λ l. absurd (omega arith);
-        engine₂ = λ l. absurd (omega arith);
-        lines₁ = λ l. absurd (omega arith);
-        lines₂ = λ l. absurd (omega arith);
+        first = record { control = refl; sound = st .sound-master; ror = st .clear-master; engine = λ l. absurd (omega arith); lines = λ l. absurd (omega arith) };
+        second = record { control = refl; sound = st .sound-slave; ror = st .clear-slave; engine = λ l. absurd (omega arith); lines = λ l. absurd (omega arith) };
         newest = λ l. absurd (omega arith);
         middle = λ l. absurd (omega arith);
         oldest = λ l. absurd (omega arith);
@@ -272,21 +264,21 @@ module _ (p : PairModel) (st : Start p) where
   -- both off
   lead-pre : (pre : List Step) → Stays pre p → Lead i hidden (controlOf master p) (controlOf slave p) (cyclesIn pre) (plays pre p)
   lead-pre pre z =
-      lead-steps idle₁ idle₂ off₁ 0 (λ n g l c. step-stopped (g .second) (wire (g .first .lines)) (ap enabledOf (c .control₂) ∙ off₂)) pre 0 (cyclesIn pre) p (omega arith) (omega arith) z lead-start
+      lead-steps idle₁ idle₂ off₁ 0 (λ n g l c. step-stopped (g .second) (wire (g .first .lines)) (ap enabledOf (c .second .control) ∙ off₂)) pre 0 (cyclesIn pre) p (omega arith) (omega arith) z lead-start
 
   -- the slave on
   lead-slave : (pre : List Step) → Stays pre p → Lead i hidden (controlOf master p) (switchedOn (controlOf slave p)) (cyclesIn pre) (slaveOn pre p)
   lead-slave pre z =
       let l = lead-pre pre z in
       let g = plays pre p in
-      lead-write₂ (switchedOn (controlOf slave p)) (cyclesIn pre) g 0x04 (g .second .registers .control .cr1 + 2) l
-      (control-after (g .second) (controlOf slave p) (l .control₂) small₂ off₂ (st .permitted-slave) (st .divided-slave))
-      (engine-on (g .second) 0x04 _ (ap enabledOf (l .control₂) ∙ off₂))
+      lead-write₂ g l (switchedOn (controlOf slave p)) 0x04 (g .second .registers .control .cr1 + 2)
+      (control-after (g .second) (controlOf slave p) (l .second .control) small₂ off₂ (st .permitted-slave) (st .divided-slave))
+      (engine-on (g .second) 0x04 _ (ap enabledOf (l .second .control) ∙ off₂))
 
   lead-mid : (pre mid : List Step) → 4 ≤ cyclesIn pre → Stays pre p → Stays mid (slaveOn pre p) → Lead i hidden (controlOf master p) (switchedOn (controlOf slave p)) (cyclesIn pre + cyclesIn mid) (plays mid (slaveOn pre p))
   lead-mid pre mid four z z′ =
       lead-steps idle₁ idle-on₂ off₁ 4
-      (λ n g l c. slave-still wired (s₁ .polarity) k₂ (g .second) (wire (g .first .lines)) (ap settingsOf (c .control₂) ∙ on₂) (c .engine₂ (omega arith)) (c .oldest l) (c .middle (omega arith)))
+      (λ n g l c. slave-still wired (s₁ .polarity) k₂ (g .second) (wire (g .first .lines)) (ap settingsOf (c .second .control) ∙ on₂) (c .second .engine (omega arith)) (c .oldest l) (c .middle (omega arith)))
       mid (cyclesIn pre) (cyclesIn pre + cyclesIn mid) (slaveOn pre p) refl four z′ (lead-slave pre z)
 
   -- the master on
@@ -295,9 +287,9 @@ module _ (p : PairModel) (st : Start p) where
   lead-master pre mid four z z′ =
       let l = lead-mid pre mid four z z′ in
       let g = plays mid (slaveOn pre p) in
-      lead-write₁ (switchedOn (controlOf master p)) (cyclesIn pre + cyclesIn mid) g 0x04 (g .first .registers .control .cr1 + 2) l
-      (control-after (g .first) (controlOf master p) (l .control₁) small₁ off₁ (st .permitted-master) (st .divided-master))
-      (engine-on (g .first) 0x04 _ (ap enabledOf (l .control₁) ∙ off₁))
+      lead-write₁ g l (switchedOn (controlOf master p)) 0x04 (g .first .registers .control .cr1 + 2)
+      (control-after (g .first) (controlOf master p) (l .first .control) small₁ off₁ (st .permitted-master) (st .divided-master))
+      (engine-on (g .first) 0x04 _ (ap enabledOf (l .first .control) ∙ off₁))
 
 -- Demand 3, its first part.
 pub demand3 : Demand3
@@ -305,5 +297,5 @@ demand3 p pre mid st four z z′ =
     let l = lead-master p st pre mid four z z′ in
     let s = settingsOf (controlOf master p) in
     exchanged-at (s .format) (s .phase) (s .polarity) (s .bits) (s .divisor .0) (settingsOf (controlOf slave p) .divisor .0) (s .sod) _ _ _ (masterOn pre mid p)
-    (record { wiring = wired p st; master = ap settingsOf (l .control₁) ∙ on₁ p st; slave = ap settingsOf (l .control₂) ∙ on₂ p st })
+    (record { wiring = wired p st; master = ap settingsOf (l .first .control) ∙ on₁ p st; slave = ap settingsOf (l .second .control) ∙ on₂ p st })
     l (omega arith) (st .divisor)
