@@ -127,7 +127,7 @@ load d g = side d g .registers .tx
 abbrev pub held : Which → PairModel → List ℕ
 held d g = side d g .registers .rx
 
--- With the master's settings s. In the slave the words of the master's load, cut to the width that it sends; in the master as many of the slave's, filled up with zeros, cut to the width that it captures.
+-- What is due under the master's settings s. In the slave: the words of the master's load, cut to the width that the master sends. In the master: as many of the slave's, filled up with zeros, cut to the width that the master captures.
 abbrev pub due : Settings → Which → PairModel → List ℕ
 due s master g = map (cut (captureWidth s)) (take (length (load master g)) (load slave g ++ replicate (length (load master g)) 0))
 due s slave g = map (cut (widthOf s)) (load master g)
@@ -145,7 +145,7 @@ busyFor Ti phase b h (suc n) = cyclesOf (slots (2 * b * suc n + 2)) h
 busyFor Microwire phase b h (suc n) = oneMore (cyclesOf (slots (suc n * (2 * b + 18) + 1)) h)
 busyFor Reserved phase b h (suc n) = cycles 0
 
--- What a device has received n cycles after the enabling: exactly the words due; its receive queue the first eight of those held and those received; ROR exactly if there were more.
+-- What a device has received n cycles after the enabling of a master with settings s: exactly the words due; its receive queue the first eight of those held and those received; ROR exactly if there were more.
 pub record Received (s : Settings) (n : ℕ) (d : Which) (g : PairModel) : Type 0 where
   pub words : received d n g ≡ due s d g
   pub queue : held d (pairRun n g) ≡ take 8 (held d g ++ due s d g)
