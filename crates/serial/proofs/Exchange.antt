@@ -1,13 +1,16 @@
--- A wired master and slave exchange their words: demand 3's first part. Claim is the end, Settle the middle.
+-- A wired master and slave exchange their words: demand 3's first part. Claim is the end, Settle the middle, Wiring what a format has to give.
 pub mod Core
 pub mod Settle
 pub mod Quiet
 pub mod Moves
+pub mod Turn
+pub mod Wiring
 pub mod Motorola
 pub mod Ends
 pub mod Phase0
 pub mod Phase1
 pub mod Ti
+pub mod Formats
 pub mod Finish
 pub mod Busy
 pub mod Project

@@ -21,7 +21,7 @@ use Rattle.serial.specs.Sound.{soundDevice}
 use Rattle.serial.specs.Drawing.{slotTotal}
 use Rattle.serial.specs.Bits.{cut}
 use Rattle.serial.specs.Lines.{byteOf}
-use Rattle.serial.specs.Slots.{widthOf}
+use Rattle.serial.specs.Slots.{widthOf, captureWidth}
 use Rattle.serial.specs.declared.lines.Pins.{Pins}
 use Rattle.serial.specs.Pair.{wire, PairModel, pairCycle, pairRun}
 
@@ -127,10 +127,10 @@ load d g = side d g .registers .tx
 abbrev pub held : Which → PairModel → List ℕ
 held d g = side d g .registers .rx
 
--- In the slave the words of the master's load; in the master as many of the slave's, filled up with zeros; all cut.
-abbrev pub due : ℕ → Which → PairModel → List ℕ
-due b master g = map (cut b) (take (length (load master g)) (load slave g ++ replicate (length (load master g)) 0))
-due b slave g = map (cut b) (load master g)
+-- What is due under the master's settings s. In the slave: the words of the master's load, cut to the width that the master sends. In the master: as many of the slave's, filled up with zeros, cut to the width that the master captures.
+abbrev pub due : Settings → Which → PairModel → List ℕ
+due s master g = map (cut (captureWidth s)) (take (length (load master g)) (load slave g ++ replicate (length (load master g)) 0))
+due s slave g = map (cut (widthOf s)) (load master g)
 
 -- One cycle more.
 abbrev pub oneMore : Cycles → Cycles
@@ -145,11 +145,11 @@ busyFor Ti phase b h (suc n) = cyclesOf (slots (2 * b * suc n + 2)) h
 busyFor Microwire phase b h (suc n) = oneMore (cyclesOf (slots (suc n * (2 * b + 18) + 1)) h)
 busyFor Reserved phase b h (suc n) = cycles 0
 
--- What a device has received n cycles after the enabling: exactly the words due; its receive queue the first eight of those held and those received; ROR exactly if there were more.
-pub record Received (b n : ℕ) (d : Which) (g : PairModel) : Type 0 where
-  pub words : received d n g ≡ due b d g
-  pub queue : held d (pairRun n g) ≡ take 8 (held d g ++ due b d g)
-  pub overrun : side d (pairRun n g) .registers .ror ≡ ltb 8 (length (held d g ++ due b d g))
+-- What a device has received n cycles after the enabling of a master with settings s: exactly the words due; its receive queue the first eight of those held and those received; ROR exactly if there were more.
+pub record Received (s : Settings) (n : ℕ) (d : Which) (g : PairModel) : Type 0 where
+  pub words : received d n g ≡ due s d g
+  pub queue : held d (pairRun n g) ≡ take 8 (held d g ++ due s d g)
+  pub overrun : side d (pairRun n g) .registers .ror ≡ ltb 8 (length (held d g ++ due s d g))
 
 -- Of the state g at the master's enabling: the first BSY 0, at most the slot total times h cycles later, and what both have received from then on.
 pub record Exchanged (g : PairModel) : Type 0 where
@@ -158,8 +158,8 @@ pub record Exchanged (g : PairModel) : Type 0 where
   pub bound : at .0 ≤ cyclesOf (slotTotal (settingsOf (controlOf master g)) (length (load master g))) (settingsOf (controlOf master g) .divisor) .0
   pub busy-before : (i : ℕ) → i < at .0 → busy master (pairRun i g) ≡ true
   pub free : busy master (pairRun (at .0) g) ≡ false
-  pub master-received : (j : ℕ) → Received (settingsOf (controlOf master g) .bits) (at .0 + j) master g
-  pub slave-received : (j : ℕ) → Received (settingsOf (controlOf master g) .bits) (at .0 + j) slave g
+  pub master-received : (j : ℕ) → Received (settingsOf (controlOf master g)) (at .0 + j) master g
+  pub slave-received : (j : ℕ) → Received (settingsOf (controlOf master g)) (at .0 + j) slave g
 
 -- The states on the way: four or more cycles and any accesses; the slave's enabling; cycles and accesses; the master's enabling, the last access.
 abbrev pub slaveOn : List Step → PairModel → PairModel

@@ -1,25 +1,24 @@
 -- The proof of demand 3's first part, put together.
-use Prim.Native.Nat.{ℕ, zero, suc, _+_, _*_, _≤_}
+use Prim.Native.Nat.{ℕ, zero, suc, _+_, _≤_}
 use mathlib.Core.Path.{_≡_, refl, sym, ap, ap₂, _∙_, subst}
 use mathlib.Core.Bool.{Bool, true, false, _||_}
 use mathlib.Core.List.{List, [], _∷_, _++_, map, append-assoc, append-nil}
-use mathlib.Core.Logic.{_⊎_, inl, inr}
 use native.Mathlib.Omega.{arith}
 use native.Mathlib.Nat.{le-refl}
 use lib.Dec.{ltb}
 use lib.ListN.{length, take, replicate}
-use Rattle.registers.specs.Time.{divisor, cyclesOf}
-use Rattle.registers.specs.Settings.{settingsOf, enabledOf, permittedOf, bitsOf}
+use Rattle.registers.specs.Time.{divisor}
+use Rattle.registers.specs.Settings.{settingsOf, enabledOf, permittedOf}
+use Rattle.registers.proofs.Picks.{pick-yes, pick-no}
 use Rattle.registers.proofs.Soundness.{sound-elim, bits-least, bits-most}
 use Rattle.registers.specs.Access.{writeModel}
 use Rattle.registers.specs.Transfer.{waitingOf, nextWord}
 use Rattle.registers.specs.declared.Control.{Control}
 use Rattle.registers.specs.declared.settings.Format.{Format}
-use Rattle.registers.specs.declared.settings.Format.the-variants.{Motorola, Ti, Microwire, Reserved}
 use Rattle.registers.specs.declared.settings.Settings.{Settings}
 use Rattle.serial.specs.Engine.{cleared, noWord}
-use Rattle.serial.specs.Lines.{idleOn, linesOf, masterLines, slaveLines, differ, masterTxd}
-use Rattle.serial.specs.Slave.{slaveStep, motorolaSlave, tiSlave}
+use Rattle.serial.specs.Lines.{idleOn, linesOf, masterLines, masterTxd}
+use Rattle.serial.specs.Slave.{slaveStep}
 use Rattle.serial.specs.Cycle.{DeviceModel, deviceStep, stepOf, activeDevice}
 use Rattle.serial.proofs.Cycles.{control-cycle, step-stopped}
 use Rattle.serial.specs.Access.{writeDevice}
@@ -27,21 +26,19 @@ use Rattle.serial.proofs.Soundness.{sound-registers}
 use Rattle.serial.specs.Pair.{wire, PairModel, pairCycle, pairRun}
 use Rattle.serial.proofs.Trace.{iterate}
 use Rattle.serial.specs.Bits.{cut}
+use Rattle.serial.specs.Slots.{widthOf}
 use Rattle.serial.proofs.Drawing.Recorded.{Fresh}
 use Rattle.serial.proofs.Drawing.Enabled.{fresh-sound}
 use Rattle.serial.proofs.Drawing.Free.{busyCycles, busy-bound}
 use Rattle.serial.proofs.Exchange.Core.{Receiver, Pair, plain, coreCycle}
-use Rattle.serial.proofs.Exchange.Settle.{rested, Lawful}
-use Rattle.serial.proofs.Exchange.Quiet.{lawful-motorola, lawful-ti}
+use Rattle.serial.proofs.Exchange.Settle.{rested}
 use Rattle.serial.proofs.Exchange.Moves.{hidden}
-use Rattle.serial.proofs.Exchange.Ends.{holding, starts, answers, Exchange}
-use Rattle.serial.proofs.Exchange.Phase0 as phase0
-use Rattle.serial.proofs.Exchange.Phase1 as phase1
-use Rattle.serial.proofs.Exchange.Ti as ti-words
+use Rattle.serial.proofs.Exchange.Turn.{given, turns, turnPins, turnLines, idle-plain, wire-plain}
+use Rattle.serial.proofs.Exchange.Wiring.{holding, starts, Wiring, slave-hidden, still-given}
+use Rattle.serial.proofs.Exchange.Formats.{wiring-of}
 use Rattle.serial.proofs.Exchange.Busy.{pair-busy, pair-free}
-use Rattle.serial.proofs.Exchange.Finish.{loadCycles, has-received}
-use Rattle.serial.proofs.Exchange.Project.{Serial, given, turns, turnPins, turnLines, coreOf, rxOf, Paired, commutes}
-use Rattle.serial.proofs.Exchange.Project.Serial.{motorola, ti}
+use Rattle.serial.proofs.Exchange.Finish.{answers, loadCycles, has-received}
+use Rattle.serial.proofs.Exchange.Project.{coreOf, rxOf, Paired, commutes}
 use Rattle.serial.proofs.Exchange.Lead.{Lead, lead-steps, lead-write₁, lead-write₂, engine-on}
 use Rattle.serial.proofs.Exchange.Enable.{switchedOn, settings-on, control-on}
 use Rattle.serial.specs.Demand3.{Step, plays, cyclesIn, controlOf, Stays, Start, completed, received, load, held, busyFor, Received, Exchanged, slaveOn, masterOn, Demand3}
@@ -56,7 +53,7 @@ paired-next : {f : Format} {phase p : Bool} {b h k : ℕ} {o : Bool} (g : PairMo
 unfolding pairCycle
 paired-next g P =
     record {
-      serial = P .serial;
+      wiring = P .wiring;
       master = ap settingsOf (control-cycle (g .first) (wire (g .second .lines))) ∙ P .master;
       slave = ap settingsOf (control-cycle (g .second) (wire (g .first .lines))) ∙ P .slave;
     }
@@ -69,27 +66,7 @@ projected {f = f} {phase = phase} {p = p} {b = b} {h = h} (suc n) g l j P =
     ∙ projected n (pairCycle g) (l ++ completed master g) (j ++ completed slave g) (paired-next g P)
     ∙ ap (iterate n (coreCycle (plain f phase b h false) (plain f phase b h true))) (commutes g P l j)
 
--- The format -----------------------------------------------------------------------------------------------------------
-
--- the idle lines of the exchange: the clock as if SPO were 0
-abbrev restLines : Format → Lines
-restLines f = idleOn f false
-
-abbrev slotsOf : Format → Bool → ℕ → ℕ → ℕ
-slotsOf Motorola false b n = n * (2 * b + 4) + (2 * b + 2)
-slotsOf Motorola true b n = 2 * b * suc n + 2
-slotsOf Ti phase b n = 2 * b * suc n + 2
-slotsOf Microwire phase b n = 0
-slotsOf Reserved phase b n = 0
-
-exchange-of : {f : Format} → Serial f → (phase : Bool) (b h : ℕ) → 4 ≤ b → b ≤ 16 → 6 ≤ h → Exchange (plain f phase b h false) (plain f phase b h true) b (restLines f) (slotsOf f phase b)
-exchange-of motorola false b h l m k = phase0.exchange b h (omega arith) m k
-exchange-of motorola true b h l m k = phase1.exchange b h (omega arith) m k
-exchange-of ti phase b h l m k = ti-words.exchange phase b h (omega arith) m
-
-lawful-of : {f : Format} → Serial f → (phase : Bool) (b h : ℕ) → Lawful (plain f phase b h true)
-lawful-of motorola phase b h = lawful-motorola phase b h
-lawful-of ti phase b h = lawful-ti phase b h
+-- The state at the master's enabling -----------------------------------------------------------------------------------
 
 -- as many words as the master sends, zeros where the slave has none
 answers-due : (ws vs : List ℕ) → answers ws vs ≡ take (length ws) (vs ++ replicate (length ws) 0)
@@ -102,60 +79,35 @@ answers-due ws vs = go ws (length ws) vs (omega arith)
     go (w ∷ ws) (suc k) (v ∷ vs) l = ap (λ (t : List ℕ). v ∷ t) (go ws (suc k) vs (omega arith))
 
 -- a load is received before the master's first BSY 0
-received-busy : {f : Format} (S : Serial f) (phase : Bool) (b h : ℕ) (X : Exchange (plain f phase b h false) (plain f phase b h true) b (restLines f) (slotsOf f phase b)) (L : Lawful (plain f phase b h true)) (k : 6 ≤ h) (ws : List ℕ)
-    → loadCycles X L k ws ≤ busyFor f phase b (divisor h) (length ws) .0
-unfolding cyclesOf
-received-busy S phase b h X L k [] = omega arith
-received-busy motorola false b h X L k (w ∷ ws) = omega arith
-received-busy motorola true b h X L k (w ∷ ws) = omega arith
-received-busy ti phase b h X L k (w ∷ ws) = le-refl _
+received-busy : {f : Format} {phase : Bool} {b h : ℕ} (W : Wiring f phase b h) (k : 6 ≤ h) (ws : List ℕ) → loadCycles W k ws ≤ busyFor f phase b (divisor h) (length ws) .0
+received-busy W k [] = omega arith
+received-busy W k (w ∷ ws) = W .in-time (length ws)
 
--- The state at the master's enabling -----------------------------------------------------------------------------------
-
-differ-same : (p : Bool) → differ p p ≡ false
-differ-same true = refl
-differ-same false = refl
-
-rest-turned : {f : Format} → Serial f → (p : Bool) → turnLines (turns f p) (idleOn f p) ≡ restLines f
-rest-turned motorola p = ap (λ (c : Bool). record { clk = c; fss = true; txd = false; released = true }) (differ-same p)
-rest-turned ti p = refl
-
-wire-turned : {f : Format} → Serial f → (p : Bool) → turnPins (turns f p) (wire (idleOn f p)) ≡ wire (restLines f)
-unfolding wire
-wire-turned motorola p = ap (λ (c : Bool). record { clk = c; fss = true; rxd = false }) (differ-same p)
-wire-turned ti p = refl
-
-module _ {f : Format} (S : Serial f) (phase p : Bool) (b h k : ℕ) (o : Bool) (c₁ c₂ : Control) (n : ℕ) (g : PairModel) (P : Paired f phase p b h k o g)
-    (L : Lead (idleOn f p) hidden c₁ c₂ n g) (four : 4 ≤ n) (least : 4 ≤ b) (most : b ≤ 16) (slow : 6 ≤ h) where
+module _ (f : Format) (phase p : Bool) (b h k : ℕ) (o : Bool) (c₁ c₂ : Control) (n : ℕ) (g : PairModel) (P : Paired f phase p b h k o g)
+    (L : Lead (idleOn f p) hidden c₁ c₂ n g) (four : 4 ≤ n) (slow : 6 ≤ h) where
   abbrev q₁ : Receiver
   q₁ = rxOf (g .first .registers) []
 
   abbrev q₂ : Receiver
   q₂ = rxOf (g .second .registers) []
 
-  core-start : coreOf (turns f p) [] [] g ≡ rested (starts (restLines f) (holding (load master g) (rxOf (g .first .registers) []) (load slave g) (rxOf (g .second .registers) [])))
+  core-start : coreOf (turns f p) [] [] g ≡ rested (starts (idleOn f false) (holding (load master g) (rxOf (g .first .registers) []) (load slave g) (rxOf (g .second .registers) [])))
   core-start =
-      let e₁ = L .engine₁ (omega arith) in
-      let e₂ = L .engine₂ (omega arith) in
-      let l₁ = ap (turnLines (turns f p)) (L .lines₁ (omega arith)) ∙ rest-turned S p in
-      let l₂ = ap (turnLines false) (L .lines₂ (omega arith)) in
-      let x = ap (turnPins (turns f p)) (L .newest (omega arith)) ∙ wire-turned S p in
-      let y = ap (turnPins (turns f p)) (L .middle (omega arith)) ∙ wire-turned S p in
-      let z = ap (turnPins (turns f p)) (L .oldest (omega arith)) ∙ wire-turned S p in
+      let e₁ = L .first .engine (omega arith) in
+      let e₂ = L .second .engine (omega arith) in
+      let l₁ = ap (turnLines (turns f p)) (L .first .lines (omega arith)) ∙ idle-plain f p in
+      let l₂ = ap (turnLines false) (L .second .lines (omega arith)) in
+      let x = ap (turnPins (turns f p)) (L .newest (omega arith)) ∙ wire-plain f p in
+      let y = ap (turnPins (turns f p)) (L .middle (omega arith)) ∙ wire-plain f p in
+      let z = ap (turnPins (turns f p)) (L .oldest (omega arith)) ∙ wire-plain f p in
       λ t. record {
         m = record { tx = load master g; rx = rxOf (g .first .registers) []; engine = e₁ t; lines = l₁ t };
         s = record { tx = load slave g; rx = rxOf (g .second .registers) []; engine = e₂ t; lines = l₂ t };
         h = record { newest = x t; middle = y t; oldest = z t };
       }
 
-  abbrev X : Exchange (plain f phase b h false) (plain f phase b h true) b (restLines f) (slotsOf f phase b)
-  X = exchange-of S phase b h least most slow
-
-  abbrev W : Lawful (plain f phase b h true)
-  W = lawful-of S phase b h
-
   abbrev start : Pair
-  start = rested (starts (restLines f) (holding (load master g) (rxOf (g .first .registers) []) (load slave g) (rxOf (g .second .registers) [])))
+  start = rested (starts (idleOn f false) (holding (load master g) (rxOf (g .first .registers) []) (load slave g) (rxOf (g .second .registers) [])))
 
   run-of : (i : ℕ) → coreOf (turns f p) (received master i g) (received slave i g) (pairRun i g) ≡ iterate i (coreCycle (plain f phase b h false) (plain f phase b h true)) start
   run-of i = projected i g [] [] P ∙ ap (iterate i (coreCycle (plain f phase b h false) (plain f phase b h true))) core-start
@@ -166,36 +118,37 @@ module _ {f : Format} (S : Serial f) (phase p : Bool) (b h k : ℕ) (o : Bool) (
   fresh : Fresh (settingsOf (controlOf master g)) (g .first)
   unfolding settingsOf
   fresh =
-      let e = L .engine₁ (omega arith) in
-      fresh-sound (g .first) (L .sound₁) (ap (λ (s : Settings). s .enabled) (P .master)) (ap (λ (s : Settings). s .slave) (P .master))
+      let e = L .first .engine (omega arith) in
+      fresh-sound (g .first) (L .first .sound) (ap (λ (s : Settings). s .enabled) (P .master)) (ap (λ (s : Settings). s .slave) (P .master))
       (record { frame = ap (λ (x : Engine). x .frame) e; slot = ap (λ (x : Engine). x .slot .0) e; elapsed = ap (λ (x : Engine). x .elapsed .0) e })
 
   held-small₁ : length (held master g) ≤ 8
-  held-small₁ = sound-elim (g .first .registers) _ (sound-registers (g .first) (L .sound₁)) .rx
+  held-small₁ = sound-elim (g .first .registers) _ (sound-registers (g .first) (L .first .sound)) .rx
 
   held-small₂ : length (held slave g) ≤ 8
-  held-small₂ = sound-elim (g .second .registers) _ (sound-registers (g .second) (L .sound₂)) .rx
+  held-small₂ = sound-elim (g .second .registers) _ (sound-registers (g .second) (L .second .sound)) .rx
 
-  in-time : (j : ℕ) → loadCycles X W slow (load master g) ≤ until + j
-  in-time j = omega (arith, received-busy S phase b h X W slow (load master g))
+  in-time : (j : ℕ) → loadCycles (P .wiring) slow (load master g) ≤ until + j
+  in-time j = omega (arith, received-busy (P .wiring) slow (load master g))
 
-  master-gets : (j : ℕ) → Received b (until + j) master g
+  master-gets : (j : ℕ) → Received (given f phase p b h false o) (until + j) master g
   master-gets j =
-      let r = ap (λ (c : Pair). c .m .rx) (run-of (until + j)) ∙ has-received X W slow (load master g) q₁ (load slave g) q₂ (until + j) (in-time j) held-small₁ held-small₂ .0 in
+      let r = ap (λ (c : Pair). c .m .rx) (run-of (until + j)) ∙ has-received (P .wiring) slow (load master g) q₁ (load slave g) q₂ (until + j) (in-time j) held-small₁ held-small₂ .0 in
       let d = ap (map (cut b)) (answers-due (load master g) (load slave g)) in
       record {
         words = ap (λ (x : Receiver). x .log) r ∙ d;
         queue = ap (λ (x : Receiver). x .held) r ∙ ap (λ (x : List ℕ). take 8 (held master g ++ x)) d;
-        overrun = ap (λ (x : Receiver). x .ror) r ∙ ap₂ (λ (t : Bool) (x : List ℕ). t || ltb 8 (length (held master g ++ x))) (L .ror₁) d;
+        overrun = ap (λ (x : Receiver). x .ror) r ∙ ap₂ (λ (t : Bool) (x : List ℕ). t || ltb 8 (length (held master g ++ x))) (L .first .ror) d;
       }
 
-  slave-gets : (j : ℕ) → Received b (until + j) slave g
+  slave-gets : (j : ℕ) → Received (given f phase p b h false o) (until + j) slave g
+  unfolding widthOf
   slave-gets j =
-      let r = ap (λ (c : Pair). c .s .rx) (run-of (until + j)) ∙ has-received X W slow (load master g) q₁ (load slave g) q₂ (until + j) (in-time j) held-small₁ held-small₂ .1 in
+      let r = ap (λ (c : Pair). c .s .rx) (run-of (until + j)) ∙ has-received (P .wiring) slow (load master g) q₁ (load slave g) q₂ (until + j) (in-time j) held-small₁ held-small₂ .1 in
       record {
         words = ap (λ (x : Receiver). x .log) r;
         queue = ap (λ (x : Receiver). x .held) r;
-        overrun = ap (λ (x : Receiver). x .ror) r ∙ ap (λ (t : Bool). t || ltb 8 (length (held slave g ++ map (cut b) (load master g)))) (L .ror₂);
+        overrun = ap (λ (x : Receiver). x .ror) r ∙ ap (λ (t : Bool). t || ltb 8 (length (held slave g ++ map (cut (widthOf (given f phase p b h false o))) (load master g)))) (L .second .ror);
       }
 
   pub exchanged-at : Exchanged g
@@ -208,54 +161,37 @@ module _ {f : Format} (S : Serial f) (phase p : Bool) (b h k : ℕ) (o : Bool) (
         bound = busy-bound s (g .first) fresh n;
         busy-before = pair-busy s g fresh;
         free = pair-free s g fresh (busyCycles s n .0) (le-refl _);
-        master-received = λ j. subst (λ (u : Settings). Received (u .bits) (busyCycles u n .0 + j) master g) (sym (P .master)) (master-gets j);
-        slave-received = λ j. subst (λ (u : Settings). Received (u .bits) (busyCycles u n .0 + j) slave g) (sym (P .master)) (slave-gets j);
+        master-received = λ j. subst (λ (u : Settings). Received u (busyCycles u n .0 + j) master g) (sym (P .master)) (master-gets j);
+        slave-received = λ j. subst (λ (u : Settings). Received u (busyCycles u n .0 + j) slave g) (sym (P .master)) (slave-gets j);
       }
 
 -- The way there --------------------------------------------------------------------------------------------------------
 
--- a quiet slave: enabled, clear, and all that it sees is the master's idle lines
-quiet-slave : {f : Format} → Serial f → (phase p : Bool) (b k n : ℕ) → slaveStep (given f phase p b k true false) cleared (wire (idleOn f p)) (wire (idleOn f p)) n ≡ noWord cleared
-unfolding slaveStep motorolaSlave tiSlave wire
-quiet-slave motorola phase p b k n = refl
-quiet-slave ti phase p b k n = refl
-
--- settings with everything named, enabled or not
-abbrev named : Format → Bool → Bool → ℕ → ℕ → Bool → Bool → Bool → Settings
-named f phase p b h role o on = record { format = f; phase = phase; polarity = p; bits = b; divisor = divisor h; slave = role; sod = o; loopback = false; enabled = on }
-
-idle-master : (f : Format) (phase p : Bool) (b h : ℕ) (o on : Bool) → linesOf (named f phase p b h false o on) cleared ≡ idleOn f p
+-- idle lines
+idle-master : (s : Settings) → s .slave ≡ false → linesOf s cleared ≡ idleOn (s .format) (s .polarity)
 unfolding linesOf masterLines masterTxd
-idle-master f phase p b h o on = refl
+idle-master s k = pick-no _ _ k
 
-idle-slave : {f : Format} → Serial f → (phase p : Bool) (b h : ℕ) (on : Bool) → linesOf (named f phase p b h true false on) cleared ≡ hidden
-unfolding linesOf slaveLines
-idle-slave motorola phase p b h on = refl
-idle-slave ti phase p b h on = refl
-
-serial-of : (f : Format) → (f ≡ Motorola) ⊎ (f ≡ Ti) → Serial f
-serial-of f (inl e) = subst Serial (sym e) motorola
-serial-of f (inr e) = subst Serial (sym e) ti
+idle-slave : (s : Settings) → s .slave ≡ true → linesOf s cleared ≡ hidden
+unfolding linesOf
+idle-slave s k = pick-yes _ _ k ∙ slave-hidden s
 
 enabled-is : (c : Control) → settingsOf c .enabled ≡ enabledOf c
 unfolding settingsOf
 enabled-is c = refl
 
-bits-are : (c : Control) → settingsOf c .bits ≡ bitsOf (c .cr0)
-unfolding settingsOf
-bits-are c = refl
-
 control-written : (d : DeviceModel) (o v : ℕ) → writeDevice d o v .registers .control ≡ writeModel (d .registers) (activeDevice d) o v .control
 unfolding writeDevice
 control-written d o v = refl
 
-slave-still : {f : Format} → Serial f → (phase p : Bool) (b k : ℕ) (d : DeviceModel) (x : Pins) → settingsOf (d .registers .control) ≡ given f phase p b k true false → d .engine ≡ cleared
+-- a slave that is on, idle, and sees the master's idle lines
+slave-still : {f : Format} {phase : Bool} {b h : ℕ} → Wiring f phase b h → (p : Bool) (k : ℕ) (d : DeviceModel) (x : Pins) → settingsOf (d .registers .control) ≡ given f phase p b k true false → d .engine ≡ cleared
     → d .pins .oldest ≡ wire (idleOn f p) → d .pins .middle ≡ wire (idleOn f p) → deviceStep d x ≡ noWord cleared
 unfolding deviceStep stepOf
-slave-still {f = f} S phase p b k d x s e u v =
+slave-still {f = f} {phase = phase} {b = b} W p k d x s e u v =
     ap₂ (λ (s : Settings) (e : Engine). stepOf s e (d .pins) x (waitingOf (d .registers)) (nextWord (d .registers))) s e
     ∙ ap₂ (λ (u v : Pins). slaveStep (given f phase p b k true false) cleared u v (nextWord (d .registers))) u v
-    ∙ quiet-slave S phase p b k (nextWord (d .registers))
+    ∙ still-given W p k (nextWord (d .registers))
 
 -- the control registers after a device's enabling
 control-after : (d : DeviceModel) (c : Control) → d .registers .control ≡ c → c .cr1 ≤ 15 → enabledOf c ≡ false → permittedOf (c .cr0) ≡ true → (c .cpsr ≡ 0 → ⊥)
@@ -278,8 +214,9 @@ module _ (p : PairModel) (st : Start p) where
   abbrev k₂ : ℕ
   k₂ = settingsOf (controlOf slave p) .divisor .0
 
-  serial-here : Serial (settingsOf (controlOf master p) .format)
-  serial-here = serial-of _ (st .serial)
+  wired : Wiring (s₁ .format) (s₁ .phase) (s₁ .bits) (s₁ .divisor .0)
+  unfolding settingsOf
+  wired = wiring-of (s₁ .bits) (s₁ .divisor .0) (bits-least _ (st .permitted-master)) (bits-most _) (st .divisor) (s₁ .format) (st .serial) (s₁ .phase)
 
   off₁ : enabledOf (controlOf master p) ≡ false
   off₁ = sym (enabled-is (controlOf master p)) ∙ st .off-master
@@ -293,13 +230,7 @@ module _ (p : PairModel) (st : Start p) where
   small₂ : controlOf slave p .cr1 ≤ 15
   small₂ = sound-elim (p .second .registers) _ (sound-registers (p .second) (st .sound-slave)) .control .cr1
 
-  -- the settings of both, off and on
-  set₁ : settingsOf (controlOf master p) ≡ named (s₁ .format) (s₁ .phase) (s₁ .polarity) (s₁ .bits) (s₁ .divisor .0) false (s₁ .sod) false
-  set₁ = λ t. record { format = s₁ .format; phase = s₁ .phase; polarity = s₁ .polarity; bits = s₁ .bits; divisor = s₁ .divisor; slave = st .is-master t; sod = s₁ .sod; loopback = st .straight-master t; enabled = st .off-master t }
-
-  set₂ : settingsOf (controlOf slave p) ≡ named (s₁ .format) (s₁ .phase) (s₁ .polarity) (s₁ .bits) k₂ true false false
-  set₂ = λ t. record { format = st .format t; phase = st .phase t; polarity = st .polarity t; bits = st .size t; divisor = divisor k₂; slave = st .is-slave t; sod = st .output t; loopback = st .straight-slave t; enabled = st .off-slave t }
-
+  -- the settings of both once they are on
   on₁ : settingsOf (switchedOn (controlOf master p)) ≡ given (s₁ .format) (s₁ .phase) (s₁ .polarity) (s₁ .bits) (s₁ .divisor .0) false (s₁ .sod)
   on₁ = settings-on (controlOf master p) small₁ off₁
       ∙ (λ t. record { format = s₁ .format; phase = s₁ .phase; polarity = s₁ .polarity; bits = s₁ .bits; divisor = s₁ .divisor; slave = st .is-master t; sod = s₁ .sod; loopback = st .straight-master t; enabled = true })
@@ -312,27 +243,19 @@ module _ (p : PairModel) (st : Start p) where
   i = idleOn (settingsOf (controlOf master p) .format) (settingsOf (controlOf master p) .polarity)
 
   idle₁ : linesOf (settingsOf (controlOf master p)) cleared ≡ i
-  idle₁ = ap (λ (s : Settings). linesOf s cleared) set₁ ∙ idle-master _ _ _ _ _ _ _
+  idle₁ = idle-master _ (st .is-master)
 
   idle₂ : linesOf (settingsOf (controlOf slave p)) cleared ≡ hidden
-  idle₂ = ap (λ (s : Settings). linesOf s cleared) set₂ ∙ idle-slave serial-here _ _ _ _ _
+  idle₂ = idle-slave _ (st .is-slave)
 
   idle-on₂ : linesOf (settingsOf (switchedOn (controlOf slave p))) cleared ≡ hidden
-  idle-on₂ = ap (λ (s : Settings). linesOf s cleared) on₂ ∙ idle-slave serial-here _ _ _ _ _
+  idle-on₂ = idle-slave _ (ap (λ (s : Settings). s .slave) on₂)
 
   lead-start : Lead i hidden (controlOf master p) (controlOf slave p) 0 p
   lead-start =
       record {
-        control₁ = refl;
-        control₂ = refl;
-        sound₁ = st .sound-master;
-        sound₂ = st .sound-slave;
-        ror₁ = st .clear-master;
-        ror₂ = st .clear-slave;
-        engine₁ = λ l. absurd (omega arith);
-        engine₂ = λ l. absurd (omega arith);
-        lines₁ = λ l. absurd (omega arith);
-        lines₂ = λ l. absurd (omega arith);
+        first = record { control = refl; sound = st .sound-master; ror = st .clear-master; engine = λ l. absurd (omega arith); lines = λ l. absurd (omega arith) };
+        second = record { control = refl; sound = st .sound-slave; ror = st .clear-slave; engine = λ l. absurd (omega arith); lines = λ l. absurd (omega arith) };
         newest = λ l. absurd (omega arith);
         middle = λ l. absurd (omega arith);
         oldest = λ l. absurd (omega arith);
@@ -341,21 +264,21 @@ module _ (p : PairModel) (st : Start p) where
   -- both off
   lead-pre : (pre : List Step) → Stays pre p → Lead i hidden (controlOf master p) (controlOf slave p) (cyclesIn pre) (plays pre p)
   lead-pre pre z =
-      lead-steps idle₁ idle₂ off₁ 0 (λ n g l c. step-stopped (g .second) (wire (g .first .lines)) (ap enabledOf (c .control₂) ∙ off₂)) pre 0 (cyclesIn pre) p (omega arith) (omega arith) z lead-start
+      lead-steps idle₁ idle₂ off₁ 0 (λ n g l c. step-stopped (g .second) (wire (g .first .lines)) (ap enabledOf (c .second .control) ∙ off₂)) pre 0 (cyclesIn pre) p (omega arith) (omega arith) z lead-start
 
   -- the slave on
   lead-slave : (pre : List Step) → Stays pre p → Lead i hidden (controlOf master p) (switchedOn (controlOf slave p)) (cyclesIn pre) (slaveOn pre p)
   lead-slave pre z =
       let l = lead-pre pre z in
       let g = plays pre p in
-      lead-write₂ (switchedOn (controlOf slave p)) (cyclesIn pre) g 0x04 (g .second .registers .control .cr1 + 2) l
-      (control-after (g .second) (controlOf slave p) (l .control₂) small₂ off₂ (st .permitted-slave) (st .divided-slave))
-      (engine-on (g .second) 0x04 _ (ap enabledOf (l .control₂) ∙ off₂))
+      lead-write₂ g l (switchedOn (controlOf slave p)) 0x04 (g .second .registers .control .cr1 + 2)
+      (control-after (g .second) (controlOf slave p) (l .second .control) small₂ off₂ (st .permitted-slave) (st .divided-slave))
+      (engine-on (g .second) 0x04 _ (ap enabledOf (l .second .control) ∙ off₂))
 
   lead-mid : (pre mid : List Step) → 4 ≤ cyclesIn pre → Stays pre p → Stays mid (slaveOn pre p) → Lead i hidden (controlOf master p) (switchedOn (controlOf slave p)) (cyclesIn pre + cyclesIn mid) (plays mid (slaveOn pre p))
   lead-mid pre mid four z z′ =
       lead-steps idle₁ idle-on₂ off₁ 4
-      (λ n g l c. slave-still serial-here (s₁ .phase) (s₁ .polarity) (s₁ .bits) k₂ (g .second) (wire (g .first .lines)) (ap settingsOf (c .control₂) ∙ on₂) (c .engine₂ (omega arith)) (c .oldest l) (c .middle (omega arith)))
+      (λ n g l c. slave-still wired (s₁ .polarity) k₂ (g .second) (wire (g .first .lines)) (ap settingsOf (c .second .control) ∙ on₂) (c .second .engine (omega arith)) (c .oldest l) (c .middle (omega arith)))
       mid (cyclesIn pre) (cyclesIn pre + cyclesIn mid) (slaveOn pre p) refl four z′ (lead-slave pre z)
 
   -- the master on
@@ -364,15 +287,15 @@ module _ (p : PairModel) (st : Start p) where
   lead-master pre mid four z z′ =
       let l = lead-mid pre mid four z z′ in
       let g = plays mid (slaveOn pre p) in
-      lead-write₁ (switchedOn (controlOf master p)) (cyclesIn pre + cyclesIn mid) g 0x04 (g .first .registers .control .cr1 + 2) l
-      (control-after (g .first) (controlOf master p) (l .control₁) small₁ off₁ (st .permitted-master) (st .divided-master))
-      (engine-on (g .first) 0x04 _ (ap enabledOf (l .control₁) ∙ off₁))
+      lead-write₁ g l (switchedOn (controlOf master p)) 0x04 (g .first .registers .control .cr1 + 2)
+      (control-after (g .first) (controlOf master p) (l .first .control) small₁ off₁ (st .permitted-master) (st .divided-master))
+      (engine-on (g .first) 0x04 _ (ap enabledOf (l .first .control) ∙ off₁))
 
 -- Demand 3, its first part.
 pub demand3 : Demand3
 demand3 p pre mid st four z z′ =
     let l = lead-master p st pre mid four z z′ in
     let s = settingsOf (controlOf master p) in
-    exchanged-at (serial-here p st) (s .phase) (s .polarity) (s .bits) (s .divisor .0) (settingsOf (controlOf slave p) .divisor .0) (s .sod) _ _ _ (masterOn pre mid p)
-    (record { serial = serial-here p st; master = ap settingsOf (l .control₁) ∙ on₁ p st; slave = ap settingsOf (l .control₂) ∙ on₂ p st })
-    l (omega arith) (subst (λ (n : ℕ). 4 ≤ n) (sym (bits-are (controlOf master p))) (bits-least _ (st .permitted-master))) (subst (λ (n : ℕ). n ≤ 16) (sym (bits-are (controlOf master p))) (bits-most _)) (st .divisor)
+    exchanged-at (s .format) (s .phase) (s .polarity) (s .bits) (s .divisor .0) (settingsOf (controlOf slave p) .divisor .0) (s .sod) _ _ _ (masterOn pre mid p)
+    (record { wiring = wired p st; master = ap settingsOf (l .first .control) ∙ on₁ p st; slave = ap settingsOf (l .second .control) ∙ on₂ p st })
+    l (omega arith) (st .divisor)

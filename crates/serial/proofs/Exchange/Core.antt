@@ -1,5 +1,5 @@
 -- The part of a device that the exchange of words goes by: queues, engine and lines. The rest of the register file follows and has no say.
-use Prim.Native.Nat.{ℕ, _+_}
+use Prim.Native.Nat.{ℕ}
 use mathlib.Core.Bool.{Bool, true, false, not, _||_}
 use mathlib.Core.List.{List, [], _∷_, _++_}
 use lib.Dec.{ltb}

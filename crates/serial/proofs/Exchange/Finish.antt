@@ -1,7 +1,7 @@
 -- What follows for every format: what both sides have received from the load's last slot on.
 use Prim.Native.Nat.{ℕ, _+_, _-_, _*_, _≤_, _<_}
 use mathlib.Core.Path.{_≡_, sym, ap, _∙_}
-use mathlib.Core.Bool.{true, _||_, or-true, or-false}
+use mathlib.Core.Bool.{Bool, true, false, _||_, or-true, or-false}
 use mathlib.Core.List.{List, [], _∷_, _++_, map, append-assoc, append-nil}
 use native.Mathlib.Omega.{arith}
 use native.Mathlib.Decide.{decLt}
@@ -9,15 +9,17 @@ use lib.Dec.{ltb}
 use lib.ListN.{length, take, length-append}
 use lib.Seq.{take-all, take-append-le}
 use borrow.Author.Tests.{lt-ltb, le-ltb}
-use Rattle.registers.specs.Transfer.{added}
+use Rattle.registers.specs.Transfer.{rest, added}
+use Rattle.registers.specs.declared.settings.Format.{Format}
 use Rattle.registers.specs.declared.settings.Settings.{Settings}
 use Rattle.serial.proofs.Trace.{iterate, iterate-add, iterate-fixed, trace-map, trace-run}
 use Rattle.serial.specs.Bits.{cut}
-use Rattle.serial.proofs.Exchange.Core.{Receiver, Pair, push, coreCycle}
-use Rattle.serial.proofs.Exchange.Settle.{Two, Lawful, rested, Meets, slots-trace}
+use Rattle.serial.specs.Slots.{widthOf, captureWidth}
+use Rattle.serial.specs.Lines.{idleOn}
+use Rattle.serial.proofs.Exchange.Core.{Receiver, Pair, plain, push, coreCycle}
+use Rattle.serial.proofs.Exchange.Settle.{Two, rested, Meets, slots-trace}
 use Rattle.serial.proofs.Exchange.Moves.{LiveSlot}
-use Rattle.serial.specs.declared.lines.Lines.{Lines}
-use Rattle.serial.proofs.Exchange.Ends.{holding, starts, pushAll, answers, Holds, Exchange}
+use Rattle.serial.proofs.Exchange.Wiring.{front, holding, starts, lastOf, Holds, Wiring, idle-settled, idle-stays}
 
 -- The receive queue ----------------------------------------------------------------------------------------------------
 
@@ -36,7 +38,12 @@ push-full w q l = rw (le-ltb (length (q .held)) 8 l, or-true (q .ror))
 kept-nil : (q : Receiver) → length (q .held) ≤ 8 → kept [] q ≡ q
 kept-nil q l = rw (append-nil (q .held), append-nil (q .log), take-all 8 (q .held) l, le-ltb 8 (length (q .held)) l, or-false (q .ror))
 
-pub pushed-kept : (ws : List ℕ) (q : Receiver) → length (q .held) ≤ 8 → pushAll ws q ≡ kept ws q
+-- the words of ws one after the other, oldest first
+abbrev pushAll : List ℕ → Receiver → Receiver
+pushAll [] q = q
+pushAll (w ∷ ws) q = pushAll ws (push w q)
+
+pushed-kept : (ws : List ℕ) (q : Receiver) → length (q .held) ≤ 8 → pushAll ws q ≡ kept ws q
 pushed-kept [] q l = sym (kept-nil q l)
 pushed-kept (w ∷ ws) q l = go (λ q′ l′. pushed-kept ws q′ l′) (decLt (length (q .held)) 8)
   where
@@ -49,35 +56,54 @@ pushed-kept (w ∷ ws) q l = go (λ q′ l′. pushed-kept ws q′ l′) (decLt 
         rw (push-full w q e)
         (ih _ l ∙ rw (take-append-le 8 (q .held) ws e, take-append-le 8 (q .held) (w ∷ ws) e, lt-ltb 8 (length (q .held ++ (w ∷ ws))) n, or-true (q .ror), append-assoc (q .log) (w ∷ []) ws))
 
+-- as many words of vs as ws has, then zeros
+abbrev pub answers : List ℕ → List ℕ → List ℕ
+answers [] vs = []
+answers (w ∷ ws) vs = front vs ∷ answers ws (rest vs)
+
 -- The end of a load ----------------------------------------------------------------------------------------------------
 
-module _ {sm ss : Settings} {b : ℕ} {i : Lines} {slots : ℕ → ℕ} (X : Exchange sm ss b i slots) (L : Lawful ss) (l : 6 ≤ sm .divisor .0) where
+module _ {f : Format} {phase : Bool} {b h : ℕ} (W : Wiring f phase b h) (l : 6 ≤ h) where
+  abbrev sm : Settings
+  sm = plain f phase b h false
+
+  abbrev ss : Settings
+  ss = plain f phase b h true
+
   abbrev cycle : Pair → Pair
   cycle = coreCycle sm ss
 
   abbrev begins : List ℕ → Receiver → List ℕ → Receiver → Pair
-  begins ws q vs r = rested (starts i (holding ws q vs r))
+  begins ws q vs r = rested (starts (idleOn f false) (holding ws q vs r))
 
   -- the cycles in which a load is received
   abbrev pub loadCycles : List ℕ → ℕ
   loadCycles [] = 0
-  loadCycles (w ∷ ws) = slots (length ws) * sm .divisor .0
+  loadCycles (w ∷ ws) = W .slots (length ws) * h
+
+  abbrev loadEnd : ℕ → List ℕ → Receiver → List ℕ → Receiver → Two
+  loadEnd = lastOf (captureWidth sm) (widthOf sm) (W .exchange .final)
 
   meets : (t : Two) → LiveSlot sm ss t → Meets sm ss (λ x. Unit {0}) (λ x. Unit {0}) t
   meets t live = record { live = live; before = tt; during = λ i. tt; slave = tt; sees = tt; rests = tt }
 
-  load-run : (w : ℕ) (ws : List ℕ) (q : Receiver) (vs : List ℕ) (r : Receiver) → iterate (loadCycles (w ∷ ws)) cycle (begins (w ∷ ws) q vs r) ≡ rested (X .last w ws q vs r)
-  load-run w ws q vs r = trace-run (slots-trace sm ss (λ x. Unit {0}) (λ x. Unit {0}) L l (X .settled (holding (w ∷ ws) q vs r)) (trace-map meets (X .run w ws q vs r)))
+  load-run : (w : ℕ) (ws : List ℕ) (q : Receiver) (vs : List ℕ) (r : Receiver) → iterate (loadCycles (w ∷ ws)) cycle (begins (w ∷ ws) q vs r) ≡ rested (loadEnd w ws q vs r)
+  load-run w ws q vs r = trace-run (slots-trace sm ss (λ x. Unit {0}) (λ x. Unit {0}) (W .lawful) l (idle-settled f phase b h (W .still) (holding (w ∷ ws) q vs r)) (trace-map meets (W .exchange .run w ws q vs r)))
+
+  load-ever : (w : ℕ) (ws : List ℕ) (q : Receiver) (vs : List ℕ) (r : Receiver) (n : ℕ)
+      → Holds (pushAll (map (cut (captureWidth sm)) (answers (w ∷ ws) vs)) q) (pushAll (map (cut (widthOf sm)) (w ∷ ws)) r) (iterate n cycle (rested (loadEnd w ws q vs r)))
+  load-ever w [] q vs r n = W .exchange .ever w q vs r n
+  load-ever w (u ∷ ws) q vs r n = load-ever u ws _ (rest vs) _ n
 
   pub has-received : (ws : List ℕ) (q : Receiver) (vs : List ℕ) (r : Receiver) (n : ℕ) → loadCycles ws ≤ n → length (q .held) ≤ 8 → length (r .held) ≤ 8
-      → Holds (kept (map (cut b) (answers ws vs)) q) (kept (map (cut b) ws) r) (iterate n cycle (begins ws q vs r))
+      → Holds (kept (map (cut (captureWidth sm)) (answers ws vs)) q) (kept (map (cut (widthOf sm)) ws) r) (iterate n cycle (begins ws q vs r))
   has-received [] q vs r n k p p′ =
-      let e = iterate-fixed cycle (begins [] q vs r) (X .rest q vs r) n in
-      (ap (λ (x : Pair). x .m .rx) e ∙ X .holds (holding [] q vs r) .0 ∙ sym (kept-nil q p), ap (λ (x : Pair). x .s .rx) e ∙ X .holds (holding [] q vs r) .1 ∙ sym (kept-nil r p′))
+      let e = iterate-fixed cycle (begins [] q vs r) (idle-stays f phase b h (W .still) q vs r) n in
+      (ap (λ (x : Pair). x .m .rx) e ∙ sym (kept-nil q p), ap (λ (x : Pair). x .s .rx) e ∙ sym (kept-nil r p′))
   has-received (w ∷ ws) q vs r n k p p′ =
       let j = n - loadCycles (w ∷ ws) in
       let total : n ≡ loadCycles (w ∷ ws) + j = omega arith in
-      let e : iterate n cycle (begins (w ∷ ws) q vs r) ≡ iterate j cycle (rested (X .last w ws q vs r)) =
+      let e : iterate n cycle (begins (w ∷ ws) q vs r) ≡ iterate j cycle (rested (loadEnd w ws q vs r)) =
       ap (λ (x : ℕ). iterate x cycle (begins (w ∷ ws) q vs r)) total ∙ iterate-add cycle (loadCycles (w ∷ ws)) j (begins (w ∷ ws) q vs r) ∙ ap (iterate j cycle) (load-run w ws q vs r) in
-      let h = X .ever w ws q vs r j in
-      (ap (λ (x : Pair). x .m .rx) e ∙ h .0 ∙ pushed-kept (map (cut b) (answers (w ∷ ws) vs)) q p, ap (λ (x : Pair). x .s .rx) e ∙ h .1 ∙ pushed-kept (map (cut b) (w ∷ ws)) r p′)
+      let h = load-ever w ws q vs r j in
+      (ap (λ (x : Pair). x .m .rx) e ∙ h .0 ∙ pushed-kept (map (cut (captureWidth sm)) (answers (w ∷ ws) vs)) q p, ap (λ (x : Pair). x .s .rx) e ∙ h .1 ∙ pushed-kept (map (cut (widthOf sm)) (w ∷ ws)) r p′)

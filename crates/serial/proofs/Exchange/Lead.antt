@@ -1,6 +1,6 @@
 -- What leads up to the exchange: the master off, its lines idle, until the slave has seen nothing else for three cycles.
 use Prim.Native.Nat.{ℕ, suc, _+_, _≤_}
-use mathlib.Core.Path.{_≡_, refl, ap, _∙_, subst}
+use mathlib.Core.Path.{_≡_, ap, ap₂, _∙_, subst, refl}
 use mathlib.Core.Bool.{Bool, true, false, not, _&&_}
 use mathlib.Core.List.{List, [], _∷_}
 use native.Mathlib.Omega.{arith}
@@ -27,36 +27,8 @@ use Rattle.serial.specs.Pair.{wire, PairModel, pairCycle}
 use Rattle.serial.specs.Demand3.{Step, play, plays, cyclesIn, controlOf, Stays}
 use Rattle.serial.specs.Demand3.Which.{master, slave}
 use Rattle.serial.specs.Demand3.Step.{read, write}
-use Rattle.serial.specs.declared.History.{History}
 use Rattle.serial.specs.declared.lines.Lines.{Lines}
 use Rattle.serial.specs.declared.lines.Pins.{Pins}
-
--- A device that is still -----------------------------------------------------------------------------------------------
-
-module _ (d : DeviceModel) (x : Pins) (q : deviceStep d x ≡ noWord cleared) where
-  still-engine : cycleOf d x .engine ≡ cleared
-  unfolding cycleOf
-  still-engine = ap (λ r. endOf (settingsOf (d .registers .control)) (r .engine)) q ∙ end-cleared _
-
-  still-lines : cycleOf d x .lines ≡ linesOf (settingsOf (d .registers .control)) cleared
-  unfolding cycleOf
-  still-lines = ap (λ r. linesOf (settingsOf (d .registers .control)) (r .engine)) q
-
-  still-ror : cycleOf d x .registers .ror ≡ d .registers .ror
-  unfolding cycleOf endCycle takeIf receiveIf
-  still-ror = ap (λ r. stepModel (d .registers) r .ror) q
-
-newest-cycle : (d : DeviceModel) (x : Pins) → cycleOf d x .pins .newest ≡ x
-unfolding cycleOf
-newest-cycle d x = refl
-
-middle-cycle : (d : DeviceModel) (x : Pins) → cycleOf d x .pins .middle ≡ d .pins .newest
-unfolding cycleOf
-middle-cycle d x = refl
-
-oldest-cycle : (d : DeviceModel) (x : Pins) → cycleOf d x .pins .oldest ≡ d .pins .middle
-unfolding cycleOf
-oldest-cycle d x = refl
 
 -- Accesses that leave the control registers leave the engine, the pins and the lines ----------------------------------
 
@@ -114,104 +86,77 @@ pub engine-on : (d : DeviceModel) (o v : ℕ) → enabledOf (d .registers .contr
 unfolding writeDevice engineAfter
 engine-on d o v h = ap (λ (t : Bool). pick (t && not (enabledOf (writeModel (d .registers) (activeDevice d) o v .control))) cleared (d .engine)) h
 
+-- A device that is off, or on and still ---------------------------------------------------------------------------------
+
+-- n cycles of it have gone; i are its idle lines
+pub record Resting (i : Lines) (c : Control) (n : ℕ) (d : DeviceModel) : Type 0 where
+  pub control : d .registers .control ≡ c
+  pub sound : soundDevice d ≡ true
+  pub ror : d .registers .ror ≡ false
+  pub engine : 1 ≤ n → d .engine ≡ cleared
+  pub lines : 1 ≤ n → d .lines ≡ i
+
+module _ {i : Lines} {c : Control} {n : ℕ} {d : DeviceModel} (l : Resting i c n d) where
+  resting-read : (o : ℕ) → Resting i c n (readDevice d o)
+  unfolding readDevice
+  resting-read o =
+      record { control = control-read (d .registers) o ∙ l .control; sound = sound-read d o (l .sound); ror = ror-read (d .registers) o ∙ l .ror; engine = l .engine; lines = l .lines }
+
+  -- a write, with the control registers that it leaves
+  resting-write : {c′ : Control} (o v : ℕ) → writeDevice d o v .registers .control ≡ c′ → writeDevice d o v .engine ≡ d .engine → Resting i c′ n (writeDevice d o v)
+  unfolding writeDevice
+  resting-write o v e k = record { control = e; sound = sound-write d o v (l .sound); ror = ror-write (d .registers) (activeDevice d) o v (l .ror); engine = λ z. k ∙ l .engine z; lines = l .lines }
+
+  -- a cycle in which nothing happens
+  resting-cycle : (x : Pins) → linesOf (settingsOf c) cleared ≡ i → deviceStep d x ≡ noWord cleared → Resting i c (suc n) (cycleOf d x)
+  unfolding cycleOf endCycle takeIf receiveIf
+  resting-cycle x p q =
+      record {
+        control = control-cycle d x ∙ l .control;
+        sound = sound-cycle d x (l .sound);
+        ror = ap (λ r. stepModel (d .registers) r .ror) q ∙ l .ror;
+        engine = λ _. ap (λ r. endOf (settingsOf (d .registers .control)) (r .engine)) q ∙ end-cleared _;
+        lines = λ _. ap₂ (λ (z : Control) r. linesOf (settingsOf z) (r .engine)) (l .control) q ∙ p;
+      }
+
 -- The lead-in ----------------------------------------------------------------------------------------------------------
 
 -- n cycles have gone with the master off; i and j are the idle lines of both
 pub record Lead (i j : Lines) (c₁ c₂ : Control) (n : ℕ) (g : PairModel) : Type 0 where
-  pub control₁ : g .first .registers .control ≡ c₁
-  pub control₂ : g .second .registers .control ≡ c₂
-  pub sound₁ : soundDevice (g .first) ≡ true
-  pub sound₂ : soundDevice (g .second) ≡ true
-  pub ror₁ : g .first .registers .ror ≡ false
-  pub ror₂ : g .second .registers .ror ≡ false
-  pub engine₁ : 1 ≤ n → g .first .engine ≡ cleared
-  pub engine₂ : 1 ≤ n → g .second .engine ≡ cleared
-  pub lines₁ : 1 ≤ n → g .first .lines ≡ i
-  pub lines₂ : 1 ≤ n → g .second .lines ≡ j
+  pub first : Resting i c₁ n (g .first)
+  pub second : Resting j c₂ n (g .second)
   pub newest : 2 ≤ n → g .second .pins .newest ≡ wire i
   pub middle : 3 ≤ n → g .second .pins .middle ≡ wire i
   pub oldest : 4 ≤ n → g .second .pins .oldest ≡ wire i
 
--- the first device, or the second, after an access: its register file is what changes
-lead-first : {i j : Lines} {c₁ c₂ c : Control} {n : ℕ} {g : PairModel} (d : DeviceModel) → Lead i j c₁ c₂ n g → d .registers .control ≡ c → soundDevice d ≡ true → d .registers .ror ≡ false
-    → d .engine ≡ g .first .engine → d .lines ≡ g .first .lines → Lead i j c c₂ n (record { first = d; second = g .second })
-lead-first d l c s r e k =
-    record {
-      control₁ = c;
-      control₂ = l .control₂;
-      sound₁ = s;
-      sound₂ = l .sound₂;
-      ror₁ = r;
-      ror₂ = l .ror₂;
-      engine₁ = λ z. e ∙ l .engine₁ z;
-      engine₂ = l .engine₂;
-      lines₁ = λ z. k ∙ l .lines₁ z;
-      lines₂ = l .lines₂;
-      newest = l .newest;
-      middle = l .middle;
-      oldest = l .oldest;
-    }
+module _ {i j : Lines} {c₁ c₂ : Control} {n : ℕ} (g : PairModel) (l : Lead i j c₁ c₂ n g) where
+  -- an access to one of them
 
-lead-second : {i j : Lines} {c₁ c₂ c : Control} {n : ℕ} {g : PairModel} (d : DeviceModel) → Lead i j c₁ c₂ n g → d .registers .control ≡ c → soundDevice d ≡ true → d .registers .ror ≡ false
-    → d .engine ≡ g .second .engine → d .lines ≡ g .second .lines → d .pins ≡ g .second .pins → Lead i j c₁ c n (record { first = g .first; second = d })
-lead-second d l c s r e k h =
-    record {
-      control₁ = l .control₁;
-      control₂ = c;
-      sound₁ = l .sound₁;
-      sound₂ = s;
-      ror₁ = l .ror₁;
-      ror₂ = r;
-      engine₁ = l .engine₁;
-      engine₂ = λ z. e ∙ l .engine₂ z;
-      lines₁ = l .lines₁;
-      lines₂ = λ z. k ∙ l .lines₂ z;
-      newest = λ z. ap (λ (x : History). x .newest) h ∙ l .newest z;
-      middle = λ z. ap (λ (x : History). x .middle) h ∙ l .middle z;
-      oldest = λ z. ap (λ (x : History). x .oldest) h ∙ l .oldest z;
-    }
+  lead-first : {c : Control} {d : DeviceModel} → Resting i c n d → Lead i j c c₂ n (record { first = d; second = g .second })
+  lead-first k = record { first = k; second = l .second; newest = l .newest; middle = l .middle; oldest = l .oldest }
 
-module _ {i j : Lines} {c₁ c₂ : Control} where
-  lead-read₁ : (n : ℕ) (g : PairModel) (o : ℕ) → Lead i j c₁ c₂ n g → Lead i j c₁ c₂ n (play (read master o) g)
+  lead-read₂ : (o : ℕ) → Lead i j c₁ c₂ n (play (read slave o) g)
   unfolding readDevice
-  lead-read₁ n g o l = lead-first (readDevice (g .first) o) l (control-read (g .first .registers) o ∙ l .control₁) (sound-read (g .first) o (l .sound₁)) (ror-read (g .first .registers) o ∙ l .ror₁) refl refl
+  lead-read₂ o = record { first = l .first; second = resting-read (l .second) o; newest = l .newest; middle = l .middle; oldest = l .oldest }
 
-  lead-read₂ : (n : ℕ) (g : PairModel) (o : ℕ) → Lead i j c₁ c₂ n g → Lead i j c₁ c₂ n (play (read slave o) g)
-  unfolding readDevice
-  lead-read₂ n g o l = lead-second (readDevice (g .second) o) l (control-read (g .second .registers) o ∙ l .control₂) (sound-read (g .second) o (l .sound₂)) (ror-read (g .second .registers) o ∙ l .ror₂) refl refl refl
+  pub lead-write₁ : (c : Control) (o v : ℕ) → controlOf master (play (write master o v) g) ≡ c → writeDevice (g .first) o v .engine ≡ g .first .engine → Lead i j c c₂ n (play (write master o v) g)
+  lead-write₁ c o v e k = lead-first (resting-write (l .first) o v e k)
 
-  -- a write to the master, with the control registers that it leaves
-  pub lead-write₁ : (c : Control) (n : ℕ) (g : PairModel) (o v : ℕ) → Lead i j c₁ c₂ n g → controlOf master (play (write master o v) g) ≡ c → writeDevice (g .first) o v .engine ≡ g .first .engine
-      → Lead i j c c₂ n (play (write master o v) g)
+  pub lead-write₂ : (c : Control) (o v : ℕ) → controlOf slave (play (write slave o v) g) ≡ c → writeDevice (g .second) o v .engine ≡ g .second .engine → Lead i j c₁ c n (play (write slave o v) g)
   unfolding writeDevice
-  lead-write₁ c n g o v l e k = lead-first (writeDevice (g .first) o v) l e (sound-write (g .first) o v (l .sound₁)) (ror-write (g .first .registers) (activeDevice (g .first)) o v (l .ror₁)) k refl
-
-  pub lead-write₂ : (c : Control) (n : ℕ) (g : PairModel) (o v : ℕ) → Lead i j c₁ c₂ n g → controlOf slave (play (write slave o v) g) ≡ c → writeDevice (g .second) o v .engine ≡ g .second .engine
-      → Lead i j c₁ c n (play (write slave o v) g)
-  unfolding writeDevice
-  lead-write₂ c n g o v l e k = lead-second (writeDevice (g .second) o v) l e (sound-write (g .second) o v (l .sound₂)) (ror-write (g .second .registers) (activeDevice (g .second)) o v (l .ror₂)) k refl refl
+  lead-write₂ c o v e k = record { first = l .first; second = resting-write (l .second) o v e k; newest = l .newest; middle = l .middle; oldest = l .oldest }
 
   -- a cycle in which both are still
-  lead-cycle : (n : ℕ) (g : PairModel) → linesOf (settingsOf c₁) cleared ≡ i → linesOf (settingsOf c₂) cleared ≡ j → Lead i j c₁ c₂ n g
-      → deviceStep (g .first) (wire (g .second .lines)) ≡ noWord cleared → deviceStep (g .second) (wire (g .first .lines)) ≡ noWord cleared → Lead i j c₁ c₂ (suc n) (pairCycle g)
-  unfolding pairCycle
-  lead-cycle n g p q c q₁ q₂ =
-      let x = wire (g .second .lines) in
-      let y = wire (g .first .lines) in
+  lead-cycle : linesOf (settingsOf c₁) cleared ≡ i → linesOf (settingsOf c₂) cleared ≡ j → deviceStep (g .first) (wire (g .second .lines)) ≡ noWord cleared → deviceStep (g .second) (wire (g .first .lines)) ≡ noWord cleared
+      → Lead i j c₁ c₂ (suc n) (pairCycle g)
+  unfolding pairCycle cycleOf
+  lead-cycle p q q₁ q₂ =
       record {
-        control₁ = control-cycle (g .first) x ∙ c .control₁;
-        control₂ = control-cycle (g .second) y ∙ c .control₂;
-        sound₁ = sound-cycle (g .first) x (c .sound₁);
-        sound₂ = sound-cycle (g .second) y (c .sound₂);
-        ror₁ = still-ror (g .first) x q₁ ∙ c .ror₁;
-        ror₂ = still-ror (g .second) y q₂ ∙ c .ror₂;
-        engine₁ = λ l. still-engine (g .first) x q₁;
-        engine₂ = λ l. still-engine (g .second) y q₂;
-        lines₁ = λ l. still-lines (g .first) x q₁ ∙ ap (λ (z : Control). linesOf (settingsOf z) cleared) (c .control₁) ∙ p;
-        lines₂ = λ l. still-lines (g .second) y q₂ ∙ ap (λ (z : Control). linesOf (settingsOf z) cleared) (c .control₂) ∙ q;
-        newest = λ l. newest-cycle (g .second) y ∙ ap wire (c .lines₁ (omega arith));
-        middle = λ l. middle-cycle (g .second) y ∙ c .newest (omega arith);
-        oldest = λ l. oldest-cycle (g .second) y ∙ c .middle (omega arith);
+        first = resting-cycle (l .first) (wire (g .second .lines)) p q₁;
+        second = resting-cycle (l .second) (wire (g .first .lines)) q q₂;
+        newest = λ m. ap wire (l .first .lines (omega arith));
+        middle = λ m. l .newest (omega arith);
+        oldest = λ m. l .middle (omega arith);
       }
 
 -- a write that leaves the control registers leaves the engine
@@ -230,10 +175,8 @@ module _ {i j : Lines} {c₁ c₂ : Control} (p : linesOf (settingsOf c₁) clea
   lead-steps [] n m g e k z l = subst (λ (x : ℕ). Lead i j c₁ c₂ x g) (omega arith) l
   lead-steps (Step.cycle ∷ xs) n m g e k z l =
       lead-steps xs (suc n) m (pairCycle g) (omega arith) (omega arith) (z .2)
-      (lead-cycle n g p q l (step-stopped (g .first) (wire (g .second .lines)) (ap enabledOf (l .control₁) ∙ off)) (quiet n g k l))
-  lead-steps (read master o ∷ xs) n m g e k z l = lead-steps xs n m _ e k (z .2) (lead-read₁ n g o l)
-  lead-steps (read slave o ∷ xs) n m g e k z l = lead-steps xs n m _ e k (z .2) (lead-read₂ n g o l)
-  lead-steps (write master o v ∷ xs) n m g e k z l =
-      lead-steps xs n m _ e k (z .2) (lead-write₁ c₁ n g o v l (z .0 ∙ l .control₁) (kept-first g o v (z .0)))
-  lead-steps (write slave o v ∷ xs) n m g e k z l =
-      lead-steps xs n m _ e k (z .2) (lead-write₂ c₂ n g o v l (z .1 ∙ l .control₂) (kept-second g o v (z .1)))
+      (lead-cycle g l p q (step-stopped (g .first) (wire (g .second .lines)) (ap enabledOf (l .first .control) ∙ off)) (quiet n g k l))
+  lead-steps (read master o ∷ xs) n m g e k z l = lead-steps xs n m _ e k (z .2) (lead-first g l (resting-read (l .first) o))
+  lead-steps (read slave o ∷ xs) n m g e k z l = lead-steps xs n m _ e k (z .2) (lead-read₂ g l o)
+  lead-steps (write master o v ∷ xs) n m g e k z l = lead-steps xs n m _ e k (z .2) (lead-write₁ g l c₁ o v (z .0 ∙ l .first .control) (kept-first g o v (z .0)))
+  lead-steps (write slave o v ∷ xs) n m g e k z l = lead-steps xs n m _ e k (z .2) (lead-write₂ g l c₂ o v (z .1 ∙ l .second .control) (kept-second g o v (z .1)))

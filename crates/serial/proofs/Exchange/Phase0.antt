@@ -2,7 +2,7 @@
 use Prim.Native.Nat.{ℕ, _+_, _-_, _*_, _≤_, _<_}
 use mathlib.Core.Path.{_≡_, refl, ap}
 use mathlib.Core.Bool.{true, false, _&&_}
-use mathlib.Core.List.{List, [], _∷_, map}
+use mathlib.Core.List.{List, [], _∷_}
 use native.Mathlib.Omega.{arith}
 use lib.ListN.{length}
 use borrow.Author.Tests.{ne-eqb}
@@ -12,17 +12,18 @@ use Rattle.serial.specs.Engine.{noWord, begun, loaded, started, driven}
 use Rattle.serial.specs.Slots.{eventOf, lastSlot, widthOf}
 use Rattle.serial.specs.Lines.{slaveLines}
 use Rattle.serial.specs.Master.{dataBit}
-use Rattle.serial.specs.Slave.{slaveStep, slaveEnd, motorolaSlave, motorolaSelect, motorolaEdges, captureEdge, driveEdge, motorolaClock}
+use Rattle.serial.specs.Slave.{slaveStep, motorolaSlave, motorolaSelect, motorolaEdges, captureEdge, driveEdge, motorolaClock}
 use Rattle.serial.specs.Pair.{wire}
 use Rattle.serial.proofs.WithinSlot.{sending, shifted}
-use Rattle.serial.proofs.Trace.{Trace, none, iterate, trace-count, trace-then, trace-end}
+use Rattle.serial.proofs.Trace.{Trace, none, trace-count, trace-then, trace-end}
 use Rattle.serial.proofs.Top.{top-zero}
-use Rattle.serial.proofs.Exchange.Core.{Receiver, push, slaveSide, coreCycle}
-use Rattle.serial.proofs.Exchange.Settle.{Two, rested}
+use Rattle.serial.proofs.Exchange.Core.{Receiver, push}
+use Rattle.serial.proofs.Exchange.Settle.{Two}
 use Rattle.serial.proofs.Events.{motorola-drive, motorola-last, levels-drive, levels-last}
 use Rattle.serial.proofs.Exchange.Moves.{Queues, inFrame, shown, hidden, acted-by, next-in, slave-by, Slot, slot-of, LiveSlot, slot-then}
 use Rattle.serial.proofs.Exchange.Motorola.{sm, ss, step, chosen, drivenAt, filledAt, received, lines-at, in-word, calm, ended, word-run}
-use Rattle.serial.proofs.Exchange.Ends.{front, idle, holding, opened, begin-acts, release-slot, pause-slot, ever, idle-stays, pushAll, answers, Holds, Exchange}
+use Rattle.serial.proofs.Exchange.Wiring.{front, holding, lastOf, Exchange}
+use Rattle.serial.proofs.Exchange.Ends.{idle, opened, begin-acts, release-slot, pause-slot, finalAt, ever}
 use Rattle.serial.specs.declared.slots.Event.the-variants.{Drive, Pause}
 
 -- both words are taken, the slave's first bit is on its line
@@ -92,35 +93,15 @@ module _ (b h : ℕ) (l : 0 < b) (m : b ≤ 16) where
       slot-then (release-slot false b h (holding (u ∷ ws) q vs r) w v c (2 * b + 2) refl) (ne-eqb (2 * b + 2) 0 (omega arith))
       (slot-then (pause-slot false b h (holding (u ∷ ws) q vs r) (2 * b + 2 + 1) (omega arith)) (ne-eqb (2 * b + 2 + 1) 0 (omega arith)) none)
 
-abbrev lastOf : ℕ → ℕ → List ℕ → Receiver → List ℕ → Receiver → Two
-lastOf b w [] q vs r = filledAt b w (front vs) (received b w (front vs) (holding [] q (rest vs) r)) (b - 1) false (2 * b + 2)
-lastOf b w (u ∷ ws) q vs r = lastOf b u ws (push (cut b (front vs)) q) (rest vs) (push (cut b w) r)
-
-module _ (b h : ℕ) (l : 0 < b) (m : b ≤ 16) where
   load-run : (w : ℕ) (ws : List ℕ) (q : Receiver) (vs : List ℕ) (r : Receiver)
-      → Trace (LiveSlot (sm false b h) (ss false b h)) (step false b h) (length ws * (2 * b + 4) + (2 * b + 2)) (idle (holding (w ∷ ws) q vs r)) (lastOf b w ws q vs r)
-  load-run w [] q vs r = trace-count (omega arith) (frame-run b h l m w [] q vs r)
+      → Trace (LiveSlot (sm false b h) (ss false b h)) (step false b h) (length ws * (2 * b + 4) + (2 * b + 2)) (idle (holding (w ∷ ws) q vs r)) (lastOf b b (finalAt b) w ws q vs r)
+  load-run w [] q vs r = trace-count (omega arith) (frame-run w [] q vs r)
   load-run w (u ∷ ws) q vs r =
       trace-count (omega arith)
-      (trace-then (frame-run b h l m w (u ∷ ws) q vs r)
-      (trace-then (gap-run b h l m w (front vs) u ws (push (cut b (front vs)) q) (rest vs) (push (cut b w) r) (b - 1))
+      (trace-then (frame-run w (u ∷ ws) q vs r)
+      (trace-then (gap-run w (front vs) u ws (push (cut b (front vs)) q) (rest vs) (push (cut b w) r) (b - 1))
       (load-run u ws (push (cut b (front vs)) q) (rest vs) (push (cut b w) r))))
 
-  last-ever : 6 ≤ h → (w : ℕ) (ws : List ℕ) (q : Receiver) (vs : List ℕ) (r : Receiver) (i : ℕ)
-      → Holds (pushAll (map (cut b) (answers (w ∷ ws) vs)) q) (pushAll (map (cut b) (w ∷ ws)) r) (iterate i (coreCycle (sm false b h) (ss false b h)) (rested (lastOf b w ws q vs r)))
-  last-ever k w [] q vs r i =
-      let x′ = shifted (b - 1 + 1) (bitOf b (front vs) (b - 1)) (front vs) (cut b w) in
-      ever false b h w (front vs) (b - 1) (push (cut b (front vs)) q) (rest vs) (push (cut b w) r) k (calm false b h (rest vs) (push (cut b w) r) false x′ false (bitOf b w (b - 1)) (bitOf b w (b - 1)) (ended false b h x′)) i
-  last-ever k w (u ∷ ws) q vs r i = last-ever k u ws (push (cut b (front vs)) q) (rest vs) (push (cut b w) r) i
-
-  pub exchange : 6 ≤ h → Exchange (sm false b h) (ss false b h) b hidden (λ n. n * (2 * b + 4) + (2 * b + 2))
-  unfolding slaveSide slaveStep motorolaSlave slaveEnd slaveLines wire
-  exchange k =
-      record {
-        last = lastOf b;
-        settled = λ k. refl;
-        holds = λ k. (refl, refl);
-        run = load-run;
-        ever = last-ever k;
-        rest = idle-stays false b h;
-      }
+  pub exchange : 6 ≤ h → Exchange (sm false b h) (ss false b h) hidden (λ n. n * (2 * b + 4) + (2 * b + 2))
+  unfolding widthOf
+  exchange k = record { final = finalAt b; run = load-run; ever = ever false b h k }

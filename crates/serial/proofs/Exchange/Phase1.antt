@@ -2,7 +2,7 @@
 use Prim.Native.Nat.{ℕ, suc, _+_, _-_, _*_, _≤_, _<_}
 use mathlib.Core.Path.{_≡_, refl, ap}
 use mathlib.Core.Bool.{Bool, true, false, _&&_}
-use mathlib.Core.List.{List, [], _∷_, map}
+use mathlib.Core.List.{List, [], _∷_}
 use native.Mathlib.Omega.{arith}
 use lib.ListN.{length}
 use Rattle.registers.specs.Time.{slots}
@@ -13,18 +13,19 @@ use Rattle.serial.specs.Engine.{clearShift, noWord, begun, loaded, start
 use Rattle.serial.specs.Slots.{eventOf, lastSlot, widthOf}
 use Rattle.serial.specs.Lines.{slaveLines}
 use Rattle.serial.specs.Master.{dataBit}
-use Rattle.serial.specs.Slave.{slaveStep, slaveEnd, motorolaSlave, motorolaSelect, motorolaEdges, captureEdge, driveEdge, motorolaClock}
+use Rattle.serial.specs.Slave.{slaveStep, motorolaSlave, motorolaSelect, motorolaEdges, captureEdge, driveEdge, motorolaClock}
 use Rattle.serial.specs.Pair.{wire}
 use Rattle.serial.proofs.Cycles.{waits-cons}
 use Rattle.serial.proofs.WithinSlot.{sending, shifted}
-use Rattle.serial.proofs.Trace.{Trace, none, iterate, trace-count, trace-then, trace-end}
+use Rattle.serial.proofs.Trace.{Trace, none, trace-count, trace-then, trace-end}
 use Rattle.serial.proofs.Top.{top-zero}
-use Rattle.serial.proofs.Exchange.Core.{Receiver, Side, push, slaveSide, coreCycle}
-use Rattle.serial.proofs.Exchange.Settle.{Two, rested}
+use Rattle.serial.proofs.Exchange.Core.{Receiver, Side, push}
+use Rattle.serial.proofs.Exchange.Settle.{Two}
 use Rattle.serial.proofs.Events.{motorola-drive, motorola-last, levels-drive, levels-last}
 use Rattle.serial.proofs.Exchange.Moves.{Queues, inFrame, shown, hidden, acted-by, next-in, slave-by, Slot, slot-of, LiveSlot, slot-then}
 use Rattle.serial.proofs.Exchange.Motorola.{sm, ss, step, chosen, drivenAt, filledAt, received, lines-at, in-word, calm, ended, word-run}
-use Rattle.serial.proofs.Exchange.Ends.{front, idle, holding, opened, begin-acts, ever, idle-stays, pushAll, answers, Holds, Exchange}
+use Rattle.serial.proofs.Exchange.Wiring.{front, holding, lastOf, Exchange}
+use Rattle.serial.proofs.Exchange.Ends.{idle, opened, begin-acts, finalAt, ever}
 use Rattle.serial.specs.declared.engine.Shift.{Shift}
 use Rattle.serial.specs.declared.slots.Event.the-variants.{Drive, Chain}
 
@@ -103,47 +104,31 @@ hold-slot b h w v q vs r c n e =
     (next-in (sm true b h) n x [] q _ (omega arith))
     still-there still-there refl
 
-abbrev lastOf : ℕ → ℕ → ℕ → List ℕ → Receiver → List ℕ → Receiver → Two
-lastOf b w v [] q vs r = filledAt b w v (received b w v (holding [] q vs r)) (b - 1) false (2 * b + 2)
-lastOf b w v (u ∷ ws) q vs r = lastOf b u (front vs) ws (push (cut b v) q) (rest vs) (push (cut b w) r)
-
 module _ (b h : ℕ) (l : 0 < b) (m : b ≤ 16) where
   -- the words of a load, from the first one's first bit on
-  words-run : (w v : ℕ) (ws : List ℕ) (q : Receiver) (vs : List ℕ) (r : Receiver)
-      → Trace (LiveSlot (sm true b h) (ss true b h)) (step true b h) (suc (length ws) * (2 * b)) (drivenAt true b h w v (holding ws q vs r) 0 2) (lastOf b w v ws q vs r)
-  words-run w v [] q vs r =
+  words-run : (w : ℕ) (ws : List ℕ) (q : Receiver) (vs : List ℕ) (r : Receiver)
+      → Trace (LiveSlot (sm true b h) (ss true b h)) (step true b h) (suc (length ws) * (2 * b)) (drivenAt true b h w (front vs) (holding ws q (rest vs) r) 0 2) (lastOf b b (finalAt b) w ws q vs r)
+  words-run w [] q vs r =
+      let v = front vs in
+      let k = holding [] q (rest vs) r in
       trace-count (omega arith)
-      (trace-then (word-run true b h w v (holding [] q vs r) m l)
-      (slot-then (hold-slot b h w v (push (cut b v) q) vs (push (cut b w) r) (b - 1) (2 * b + 1) refl) refl
-      (trace-end none (ap (filledAt b w v (received b w v (holding [] q vs r)) (b - 1) false) (omega arith)))))
-  words-run w v (u ∷ ws) q vs r =
+      (trace-then (word-run true b h w v k m l)
+      (slot-then (hold-slot b h w v (push (cut b v) q) (rest vs) (push (cut b w) r) (b - 1) (2 * b + 1) refl) refl
+      (trace-end none (ap (filledAt b w v (received b w v k) (b - 1) false) (omega arith)))))
+  words-run w (u ∷ ws) q vs r =
+      let v = front vs in
       trace-count (omega arith)
-      (trace-then (word-run true b h w v (holding (u ∷ ws) q vs r) m l)
-      (slot-then (chain-slot b h l w v u ws (push (cut b v) q) vs (push (cut b w) r) (b - 1) (2 * b + 1) refl) refl
-      (words-run u (front vs) ws (push (cut b v) q) (rest vs) (push (cut b w) r))))
+      (trace-then (word-run true b h w v (holding (u ∷ ws) q (rest vs) r) m l)
+      (slot-then (chain-slot b h l w v u ws (push (cut b v) q) (rest vs) (push (cut b w) r) (b - 1) (2 * b + 1) refl) refl
+      (words-run u ws (push (cut b v) q) (rest vs) (push (cut b w) r))))
 
   load-run : (w : ℕ) (ws : List ℕ) (q : Receiver) (vs : List ℕ) (r : Receiver)
-      → Trace (LiveSlot (sm true b h) (ss true b h)) (step true b h) (2 * b * suc (length ws) + 2) (idle (holding (w ∷ ws) q vs r)) (lastOf b w (front vs) ws q (rest vs) r)
+      → Trace (LiveSlot (sm true b h) (ss true b h)) (step true b h) (2 * b * suc (length ws) + 2) (idle (holding (w ∷ ws) q vs r)) (lastOf b b (finalAt b) w ws q vs r)
   load-run w ws q vs r =
       trace-count (omega arith)
       (slot-then (take-slot b h l w ws q vs r) refl
-      (slot-then (first-slot b h l w ws q vs r) refl (words-run w (front vs) ws q (rest vs) r)))
+      (slot-then (first-slot b h l w ws q vs r) refl (words-run w ws q vs r)))
 
-  last-ever : 6 ≤ h → (w v : ℕ) (ws : List ℕ) (q : Receiver) (vs : List ℕ) (r : Receiver) (i : ℕ)
-      → Holds (pushAll (map (cut b) (answers ws vs)) (push (cut b v) q)) (pushAll (map (cut b) ws) (push (cut b w) r)) (iterate i (coreCycle (sm true b h) (ss true b h)) (rested (lastOf b w v ws q vs r)))
-  last-ever k w v [] q vs r i =
-      let x′ = shifted (b - 1 + 1) (bitOf b v (b - 1)) v (cut b w) in
-      ever true b h w v (b - 1) (push (cut b v) q) vs (push (cut b w) r) k (calm true b h vs (push (cut b w) r) false x′ false (bitOf b w (b - 1)) (bitOf b w (b - 1)) (ended true b h x′)) i
-  last-ever k w v (u ∷ ws) q vs r i = last-ever k u (front vs) ws (push (cut b v) q) (rest vs) (push (cut b w) r) i
-
-  pub exchange : 6 ≤ h → Exchange (sm true b h) (ss true b h) b hidden (λ n. 2 * b * suc n + 2)
-  unfolding slaveSide slaveStep motorolaSlave slaveEnd slaveLines wire
-  exchange k =
-      record {
-        last = λ w ws q vs r. lastOf b w (front vs) ws q (rest vs) r;
-        settled = λ k. refl;
-        holds = λ k. (refl, refl);
-        run = load-run;
-        ever = λ w ws q vs r. last-ever k w (front vs) ws q (rest vs) r;
-        rest = idle-stays true b h;
-      }
+  pub exchange : 6 ≤ h → Exchange (sm true b h) (ss true b h) hidden (λ n. 2 * b * suc n + 2)
+  unfolding widthOf
+  exchange k = record { final = finalAt b; run = load-run; ever = ever true b h k }

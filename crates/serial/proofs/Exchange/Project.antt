@@ -3,141 +3,30 @@ use Prim.Native.Nat.{ℕ}
 use mathlib.Core.Path.{_≡_, refl, sym, ap, ap₂, _∙_}
 use mathlib.Core.Bool.{Bool, true, false, not, _&&_}
 use mathlib.Core.List.{List, [], _∷_, _++_, append-nil}
-use lib.Dec.{eqb, ltb}
+use lib.Dec.{eqb}
 use lib.ListN.{length, getD}
-use Rattle.registers.specs.Time.{divisor}
 use Rattle.registers.specs.Choose.{pick}
 use Rattle.registers.specs.Model.{Model}
 use Rattle.registers.specs.Settings.{settingsOf, enabledOf}
 use Rattle.registers.specs.Transfer.{rest, waitingOf, nextWord, takeWord, receiveWord, endCycle}
 use Rattle.registers.specs.declared.settings.Format.{Format}
-use Rattle.registers.specs.declared.settings.Format.the-variants.{Motorola, Ti, Microwire, Reserved}
 use Rattle.registers.specs.declared.settings.Settings.{Settings}
-use Rattle.serial.specs.Engine.{noWord}
-use Rattle.serial.specs.Slots.{eventOf, lastSlot, widthOf, levelsOf}
-use Rattle.serial.specs.Lines.{differ, masterLines, slaveLines, frameLines, linesOf, masterTxd}
-use Rattle.serial.specs.Master.{act, masterStep, masterEnd, ticked, acting, dataBit}
-use Rattle.serial.specs.Slave.{slaveStep, slaveEnd, motorolaSlave, motorolaSelect, motorolaEdges, motorolaClock, captureEdge, driveEdge, tiSlave, tiFalls, tiRises}
+use Rattle.serial.specs.Lines.{masterLines, slaveLines, linesOf}
+use Rattle.serial.specs.Master.{masterStep}
+use Rattle.serial.specs.Slave.{slaveStep, slaveEnd}
 use Rattle.serial.specs.Cycle.{DeviceModel, stepOf, endOf, takeIf, receiveIf, deviceStep, completedOf, cycleOf}
 use Rattle.serial.specs.Pair.{wire, PairModel, pairCycle}
+use Rattle.serial.specs.Demand3.{completed}
+use Rattle.serial.specs.Demand3.Which.{master, slave}
 use Rattle.serial.proofs.Cycles.{step-tx, waits}
 use Rattle.serial.proofs.Exchange.Core.{Receiver, Side, Pair, plain, push, moved, withEngine, acted, masterSide, slaveSide, coreCycle}
+use Rattle.serial.proofs.Exchange.Turn.{given, turns, turnPins, turnLines, turn-twice, turn-pins-twice, step-plain, end-plain, lines-plain}
+use Rattle.serial.proofs.Exchange.Wiring.{Wiring}
 use Rattle.serial.specs.declared.History.{History}
 use Rattle.serial.specs.declared.engine.Engine.{Engine}
 use Rattle.serial.specs.declared.engine.Step.{Step}
 use Rattle.serial.specs.declared.lines.Lines.{Lines}
 use Rattle.serial.specs.declared.lines.Pins.{Pins}
-use Rattle.serial.specs.declared.slots.Event.{Event}
-use Rattle.serial.specs.declared.slots.Event.the-variants.{Begin, BeginDrive, Drive, First, Capture, Chain, JoinDrive, JoinCapture, Quiet, Release, Pause}
-use Rattle.serial.specs.declared.slots.Levels.{Levels}
-
--- Settings with everything named: SPO p, SOD o.
-abbrev pub given : Format → Bool → Bool → ℕ → ℕ → Bool → Bool → Settings
-given f phase p b h slave o =
-    record { format = f; phase = phase; polarity = p; bits = b; divisor = divisor h; slave = slave; sod = o; loopback = false; enabled = true }
-
--- SPO as far as it means something.
-abbrev pub turns : Format → Bool → Bool
-turns Motorola p = p
-turns Ti p = false
-turns Microwire p = false
-turns Reserved p = false
-
-abbrev pub turnPins : Bool → Pins → Pins
-turnPins p x = record { clk = differ (x .clk) p; fss = x .fss; rxd = x .rxd }
-
-abbrev pub turnLines : Bool → Lines → Lines
-turnLines p x = record { clk = differ (x .clk) p; fss = x .fss; txd = x .txd; released = x .released }
-
-differ-twice : (a p : Bool) → differ (differ a p) p ≡ a
-differ-twice true true = refl
-differ-twice true false = refl
-differ-twice false true = refl
-differ-twice false false = refl
-
-pub turn-twice : (p : Bool) (x : Lines) → turnLines p (turnLines p x) ≡ x
-turn-twice p x = ap (λ (c : Bool). record { clk = c; fss = x .fss; txd = x .txd; released = x .released }) (differ-twice (x .clk) p)
-
-pub turn-pins-twice : (p : Bool) (x : Pins) → turnPins p (turnPins p x) ≡ x
-turn-pins-twice p x = ap (λ (c : Bool). record { clk = c; fss = x .fss; rxd = x .rxd }) (differ-twice (x .clk) p)
-
--- The master --------------------------------------------------------------------------------------------------------------
-
-act-plain : (f : Format) (phase p : Bool) (b h : ℕ) (o : Bool) (e : Engine) (w : Bool) (n : ℕ) (d : Bool) (v : Event)
-    → act (given f phase p b h false o) e w n d v ≡ act (plain f phase b h false) e w n d v
-unfolding widthOf
-act-plain f phase p b h o e w n d Begin = refl
-act-plain f phase p b h o e w n d BeginDrive = refl
-act-plain f phase p b h o e w n d (Drive i) = refl
-act-plain f phase p b h o e w n d First = refl
-act-plain f phase p b h o e w n d Capture = refl
-act-plain f phase p b h o e w n d (Chain i) = refl
-act-plain f phase p b h o e w n d (JoinDrive i) = refl
-act-plain f phase p b h o e w n d JoinCapture = refl
-act-plain f phase p b h o e w n d Quiet = refl
-act-plain f phase p b h o e w n d Release = refl
-act-plain f phase p b h o e w n d Pause = refl
-
-step-plain : (f : Format) (phase p : Bool) (b h : ℕ) (o : Bool) (e : Engine) (w : Bool) (n : ℕ) (d : Bool)
-    → masterStep (given f phase p b h false o) e w n d ≡ masterStep (plain f phase b h false) e w n d
-unfolding masterStep dataBit eventOf
-step-plain f phase p b h o e w n d = ap (λ (r : Step). pick (acting e w) r (noWord e)) (act-plain f phase p b h o e w n d (eventOf (plain f phase b h false) (e .slot)))
-
-end-plain : (f : Format) (phase p : Bool) (b h : ℕ) (o : Bool) (e : Engine) → masterEnd (given f phase p b h false o) e ≡ masterEnd (plain f phase b h false) e
-unfolding masterEnd ticked lastSlot
-end-plain f phase p b h o e = refl
-
-differ-low : (c p : Bool) → differ c p ≡ differ (differ c false) p
-differ-low true p = refl
-differ-low false p = refl
-
-differ-false : (c : Bool) → c ≡ differ c false
-differ-false true = refl
-differ-false false = refl
-
--- The formats of a pair.
-pub data Serial : Format → Type 0 where
-  motorola : Serial Motorola
-  ti : Serial Ti
-
-lines-plain : {f : Format} → Serial f → (phase p : Bool) (b h : ℕ) (o : Bool) (e : Engine) → masterLines (given f phase p b h false o) e ≡ turnLines (turns f p) (masterLines (plain f phase b h false) e)
-unfolding masterLines masterTxd levelsOf frameLines
-lines-plain motorola phase p b h o e = go (e .frame) (levelsOf (plain Motorola phase b h false) (not (eqb (e .shift .captured) 0)) (e .slot))
-  where
-    go : (t : Bool) (v : Levels) → pick t (frameLines (given Motorola phase p b h false o) v (ltb 0 (e .slot .0) && e .shift .level)) (record { clk = p; fss = true; txd = false; released = true })
-        ≡ turnLines p (pick t (frameLines (plain Motorola phase b h false) v (ltb 0 (e .slot .0) && e .shift .level)) (record { clk = false; fss = true; txd = false; released = true }))
-    go true v = ap (λ (c : Bool). record { clk = c; fss = v .fss; txd = ltb 0 (e .slot .0) && e .shift .level; released = v .released }) (differ-low (v .clk) p)
-    go false v = refl
-lines-plain ti phase p b h o e =
-    let l = masterLines (plain Ti phase b h false) e in
-    ap (λ (c : Bool). record { clk = c; fss = l .fss; txd = l .txd; released = l .released }) (differ-false (l .clk))
-
--- The slave ---------------------------------------------------------------------------------------------------------------
-
-motorola-turned : (phase p : Bool) (b h k : ℕ) (e : Engine) (c d f₁ d₁ f₂ d₂ : Bool) (n : ℕ)
-    → slaveStep (given Motorola phase p b k true false) e (record { clk = differ c p; fss = f₁; rxd = d₁ }) (record { clk = differ d p; fss = f₂; rxd = d₂ }) n
-    ≡ slaveStep (plain Motorola phase b h true) e (record { clk = c; fss = f₁; rxd = d₁ }) (record { clk = d; fss = f₂; rxd = d₂ }) n
-unfolding slaveStep motorolaSlave motorolaSelect motorolaEdges motorolaClock captureEdge driveEdge dataBit
-motorola-turned phase true b h k e true true f₁ d₁ f₂ d₂ n = refl
-motorola-turned phase true b h k e true false f₁ d₁ f₂ d₂ n = refl
-motorola-turned phase true b h k e false true f₁ d₁ f₂ d₂ n = refl
-motorola-turned phase true b h k e false false f₁ d₁ f₂ d₂ n = refl
-motorola-turned phase false b h k e true true f₁ d₁ f₂ d₂ n = refl
-motorola-turned phase false b h k e true false f₁ d₁ f₂ d₂ n = refl
-motorola-turned phase false b h k e false true f₁ d₁ f₂ d₂ n = refl
-motorola-turned phase false b h k e false false f₁ d₁ f₂ d₂ n = refl
-
-ti-same : (phase p : Bool) (b h k : ℕ) (e : Engine) (x y : Pins) (n : ℕ) → slaveStep (given Ti phase p b k true false) e x y n ≡ slaveStep (plain Ti phase b h true) e x y n
-unfolding slaveStep tiSlave tiFalls tiRises dataBit
-ti-same phase p b h k e x y n = refl
-
-turn-none : (x : Pins) → turnPins false x ≡ x
-turn-none x = ap (λ (c : Bool). record { clk = c; fss = x .fss; rxd = x .rxd }) (sym (differ-false (x .clk)))
-
-slave-plain : {f : Format} → Serial f → (phase p : Bool) (b h k : ℕ) (e : Engine) (x y : Pins) (n : ℕ)
-    → slaveStep (given f phase p b k true false) e (turnPins (turns f p) x) (turnPins (turns f p) y) n ≡ slaveStep (plain f phase b h true) e x y n
-slave-plain motorola phase p b h k e x y n = motorola-turned phase p b h k e (x .clk) (y .clk) (x .fss) (x .rxd) (y .fss) (y .rxd) n
-slave-plain ti phase p b h k e x y n = ap₂ (λ (u v : Pins). slaveStep (given Ti phase p b k true false) e u v n) (turn-none x) (turn-none y) ∙ ti-same phase p b h k e x y n
 
 -- The registers -----------------------------------------------------------------------------------------------------------
 
@@ -162,13 +51,6 @@ sideOf p log d = record { tx = d .registers .tx; rx = rxOf (d .registers) log; e
 abbrev pub historyOf : Bool → History → History
 historyOf p h = record { newest = turnPins p (h .newest); middle = turnPins p (h .middle); oldest = turnPins p (h .oldest) }
 
--- the words completed in a pair cycle
-abbrev pub firstGets : PairModel → List ℕ
-firstGets g = completedOf (g .first) (wire (g .second .lines))
-
-abbrev pub secondGets : PairModel → List ℕ
-secondGets g = completedOf (g .second) (wire (g .first .lines))
-
 -- the lines of a slave have no clock to turn
 abbrev pub coreOf : Bool → List ℕ → List ℕ → PairModel → Pair
 coreOf p l k g =
@@ -176,7 +58,7 @@ coreOf p l k g =
 
 -- the two devices are set up as a pair and enabled
 pub record Paired (f : Format) (phase p : Bool) (b h k : ℕ) (o : Bool) (g : PairModel) : Type 0 where
-  pub serial : Serial f
+  pub wiring : Wiring f phase b h
   pub master : settingsOf (g .first .registers .control) ≡ given f phase p b h false o
   pub slave : settingsOf (g .second .registers .control) ≡ given f phase p b k true false
 
@@ -211,7 +93,7 @@ module _ {f : Format} {phase p : Bool} {b h k : ℕ} {o : Bool} (g : PairModel) 
       let mid = g .second .pins .middle in
       ap (λ (s : Settings). stepOf s e (g .second .pins) x (waitingOf m) (getD (m .tx) 0 0)) (P .slave)
       ∙ ap₂ (λ (u v : Pins). slaveStep (given f phase p b k true false) e u v (getD (m .tx) 0 0)) (sym (turn-pins-twice q old)) (sym (turn-pins-twice q mid))
-      ∙ slave-plain (P .serial) phase p b h k e (turnPins q old) (turnPins q mid) (getD (m .tx) 0 0)
+      ∙ P .wiring .turned p k e (turnPins q old) (turnPins q mid) (getD (m .tx) 0 0)
 
 -- a device after a step R, as the exchange sees it
 abbrev stepped : Bool → List ℕ → DeviceModel → Settings → Step → Side
@@ -238,7 +120,7 @@ side-cycle q l d x s r e a =
     (step-tx m (r .takes) (r .complete) (r .word) (endOf s (r .engine) .frame)) (step-rx m (r .takes) (r .complete) (r .word) (endOf s (r .engine) .frame) l)
 
 module _ {f : Format} {phase p : Bool} {b h k : ℕ} {o : Bool} (g : PairModel) (P : Paired f phase p b h k o g) (l j : List ℕ) where
-  first-side : sideOf (turns f p) (l ++ firstGets g) (pairCycle g .first) ≡ masterSide (plain f phase b h false) (sideOf (turns f p) l (g .first)) (wire (g .second .lines) .rxd)
+  first-side : sideOf (turns f p) (l ++ completed master g) (pairCycle g .first) ≡ masterSide (plain f phase b h false) (sideOf (turns f p) l (g .first)) (wire (g .second .lines) .rxd)
   unfolding pairCycle endOf linesOf masterSide acted
   first-side =
       let x = wire (g .second .lines) in
@@ -247,9 +129,9 @@ module _ {f : Format} {phase p : Bool} {b h k : ℕ} {o : Bool} (g : PairModel) 
       let y = sideOf (turns f p) l (g .first) in
       side-cycle (turns f p) l (g .first) x s r (P .master) (first-step g P x)
       ∙ ap₂ (λ (e : Engine) (z : Lines). withEngine (moved r y z) e) (end-plain f phase p b h o (r .engine))
-      (ap (turnLines (turns f p)) (lines-plain (P .serial) phase p b h o (r .engine)) ∙ turn-twice (turns f p) (masterLines (plain f phase b h false) (r .engine)))
+      (ap (turnLines (turns f p)) (lines-plain f phase p b h o (r .engine)) ∙ turn-twice (turns f p) (masterLines (plain f phase b h false) (r .engine)))
 
-  second-side : sideOf false (j ++ secondGets g) (pairCycle g .second)
+  second-side : sideOf false (j ++ completed slave g) (pairCycle g .second)
       ≡ slaveSide (plain f phase b h true) (historyOf (turns f p) (g .second .pins) .oldest) (historyOf (turns f p) (g .second .pins) .middle) (sideOf false j (g .second))
   unfolding pairCycle endOf linesOf slaveSide slaveLines slaveEnd
   second-side =
@@ -260,7 +142,7 @@ module _ {f : Format} {phase p : Bool} {b h k : ℕ} {o : Bool} (g : PairModel) 
       side-cycle false j (g .second) x s r (P .slave) (second-step g P x)
 
   -- a pair cycle, projected
-  pub commutes : coreOf (turns f p) (l ++ firstGets g) (j ++ secondGets g) (pairCycle g) ≡ coreCycle (plain f phase b h false) (plain f phase b h true) (coreOf (turns f p) l j g)
+  pub commutes : coreOf (turns f p) (l ++ completed master g) (j ++ completed slave g) (pairCycle g) ≡ coreCycle (plain f phase b h false) (plain f phase b h true) (coreOf (turns f p) l j g)
   unfolding coreCycle wire pairCycle cycleOf
   commutes =
       ap₂ (λ (m s : Side). record { m = m; s = s; h = historyOf (turns f p) (pairCycle g .second .pins) }) first-side second-side

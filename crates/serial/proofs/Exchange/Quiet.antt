@@ -5,6 +5,7 @@ use mathlib.Core.Bool.{Bool, true, false, _&&_, and-false}
 use lib.Dec.{leb}
 use lib.ListN.{getD}
 use Rattle.registers.specs.Choose.{pick}
+use Rattle.registers.proofs.Picks.{pick-both}
 use Rattle.registers.specs.declared.settings.Format.{Format}
 use Rattle.registers.specs.declared.settings.Format.the-variants.{Motorola, Ti, Microwire, Reserved}
 use Rattle.registers.specs.declared.settings.Settings.{Settings}
@@ -55,10 +56,6 @@ still-idem s p h q r x =
     let once : slaveSide s p p y ≡ withEngine (calm s y) (y .engine) = side-after s p p y (noWord (y .engine)) (h (y .engine) _) ∙ ap (withEngine (calm s y)) fixed in
     ap (slaveSide s p p) once ∙ side-after s p p (withEngine (calm s y) (y .engine)) (noWord (y .engine)) (h (y .engine) _) ∙ ap (withEngine (calm s y)) fixed ∙ sym once
 
-pick-both : {A : Type 0} (t : Bool) (x y z : A) → x ≡ z → y ≡ z → pick t x y ≡ z
-pick-both true x y z p q = p
-pick-both false x y z p q = q
-
 clock-quiet : (s : Settings) (e : Engine) (n : ℕ) (d : Bool) → motorolaClock s e false false n d ≡ noWord e
 unfolding motorolaClock
 clock-quiet s e n d = rw (and-false (e .frame))
@@ -66,26 +63,22 @@ clock-quiet s e n d = rw (and-false (e .frame))
 -- Motorola with FSS LOW
 pub quiet-low : (phase : Bool) (b h : ℕ) (c d d′ : Bool) (e : Engine) (n : ℕ) → slaveStep (plain Motorola phase b h true) e (record { clk = c; fss = false; rxd = d }) (record { clk = c; fss = false; rxd = d′ }) n ≡ noWord e
 unfolding slaveStep motorolaSlave motorolaSelect motorolaEdges captureEdge driveEdge
-quiet-low true b h true d d′ e n = pick-both (e .selected) _ _ _ (ap (afterTaking false) (clock-quiet (plain Motorola true b h true) e n _)) refl
-quiet-low true b h false d d′ e n = pick-both (e .selected) _ _ _ (ap (afterTaking false) (clock-quiet (plain Motorola true b h true) e n _)) refl
-quiet-low false b h true d d′ e n = pick-both (e .selected) _ _ _ (ap (afterTaking false) (clock-quiet (plain Motorola false b h true) e n _)) refl
-quiet-low false b h false d d′ e n = pick-both (e .selected) _ _ _ (ap (afterTaking false) (clock-quiet (plain Motorola false b h true) e n _)) refl
+quiet-low true b h true d d′ e n = pick-both (λ (r : Step). r ≡ noWord e) (e .selected) _ _ (λ _. ap (afterTaking false) (clock-quiet (plain Motorola true b h true) e n _)) (λ _. refl)
+quiet-low true b h false d d′ e n = pick-both (λ (r : Step). r ≡ noWord e) (e .selected) _ _ (λ _. ap (afterTaking false) (clock-quiet (plain Motorola true b h true) e n _)) (λ _. refl)
+quiet-low false b h true d d′ e n = pick-both (λ (r : Step). r ≡ noWord e) (e .selected) _ _ (λ _. ap (afterTaking false) (clock-quiet (plain Motorola false b h true) e n _)) (λ _. refl)
+quiet-low false b h false d d′ e n = pick-both (λ (r : Step). r ≡ noWord e) (e .selected) _ _ (λ _. ap (afterTaking false) (clock-quiet (plain Motorola false b h true) e n _)) (λ _. refl)
 
 -- with FSS HIGH the engine is clear at once
-high-idem : (phase : Bool) (b h : ℕ) (c d : Bool) (q r : Pins) (x : Side)
-    → slaveSide (plain Motorola phase b h true) (record { clk = c; fss = true; rxd = d }) (record { clk = c; fss = true; rxd = d }) (slaveSide (plain Motorola phase b h true) (record { clk = c; fss = true; rxd = d }) (record { clk = c; fss = true; rxd = d }) (slaveSide (plain Motorola phase b h true) q r x))
-    ≡ slaveSide (plain Motorola phase b h true) (record { clk = c; fss = true; rxd = d }) (record { clk = c; fss = true; rxd = d }) (slaveSide (plain Motorola phase b h true) q r x)
-unfolding slaveSide slaveStep motorolaSlave
-high-idem phase b h c d q r x = refl
-
 pub lawful-motorola : (phase : Bool) (b h : ℕ) → Lawful (plain Motorola phase b h true)
-lawful-motorola phase b h = record { idem = λ p q r x. go (p .clk) (p .fss) (p .rxd) q r x }
+unfolding slaveSide slaveStep motorolaSlave
+lawful-motorola phase b h p q r x = go (p .fss)
   where
-    go : (c f d : Bool) (q r : Pins) (x : Side)
-        → slaveSide (plain Motorola phase b h true) (record { clk = c; fss = f; rxd = d }) (record { clk = c; fss = f; rxd = d }) (slaveSide (plain Motorola phase b h true) (record { clk = c; fss = f; rxd = d }) (record { clk = c; fss = f; rxd = d }) (slaveSide (plain Motorola phase b h true) q r x))
-        ≡ slaveSide (plain Motorola phase b h true) (record { clk = c; fss = f; rxd = d }) (record { clk = c; fss = f; rxd = d }) (slaveSide (plain Motorola phase b h true) q r x)
-    go c true d q r x = high-idem phase b h c d q r x
-    go c false d q r x = still-idem (plain Motorola phase b h true) (record { clk = c; fss = false; rxd = d }) (λ e n. quiet-low phase b h c d d e n) q r x
+    go : (f : Bool)
+        → (let s = plain Motorola phase b h true in
+        let p′ : Pins = record { clk = p .clk; fss = f; rxd = p .rxd } in
+        slaveSide s p′ p′ (slaveSide s p′ p′ (slaveSide s q r x)) ≡ slaveSide s p′ p′ (slaveSide s q r x))
+    go true = refl
+    go false = still-idem (plain Motorola phase b h true) (record { clk = p .clk; fss = false; rxd = p .rxd }) (quiet-low phase b h (p .clk) (p .rxd) (p .rxd)) q r x
 
 -- TI
 pub quiet-ti : (phase : Bool) (b h : ℕ) (c f d f′ d′ : Bool) (e : Engine) (n : ℕ) → slaveStep (plain Ti phase b h true) e (record { clk = c; fss = f; rxd = d }) (record { clk = c; fss = f′; rxd = d′ }) n ≡ noWord e
@@ -94,4 +87,4 @@ quiet-ti phase b h true f d f′ d′ e n = refl
 quiet-ti phase b h false f d f′ d′ e n = refl
 
 pub lawful-ti : (phase : Bool) (b h : ℕ) → Lawful (plain Ti phase b h true)
-lawful-ti phase b h = record { idem = λ p q r x. still-idem (plain Ti phase b h true) p (λ e n. quiet-ti phase b h (p .clk) (p .fss) (p .rxd) (p .fss) (p .rxd) e n) q r x }
+lawful-ti phase b h p = still-idem (plain Ti phase b h true) p (quiet-ti phase b h (p .clk) (p .fss) (p .rxd) (p .fss) (p .rxd))

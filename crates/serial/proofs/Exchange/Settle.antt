@@ -67,8 +67,8 @@ abbrev pub line : Side → Bool
 line x = wire (x .lines) .rxd
 
 -- A slave that sees no edge comes to rest: a cycle after what it last did nothing changes any more.
-pub record Lawful (ss : Settings) : Type 0 where
-  pub idem : (p q r : Pins) (x : Side) → slaveSide ss p p (slaveSide ss p p (slaveSide ss q r x)) ≡ slaveSide ss p p (slaveSide ss q r x)
+abbrev pub Lawful : Settings → Type 0
+Lawful ss = (p q r : Pins) (x : Side) → slaveSide ss p p (slaveSide ss p p (slaveSide ss q r x)) ≡ slaveSide ss p p (slaveSide ss q r x)
 
 module _ (sm ss : Settings) where
   -- the master in the slot that begins
@@ -87,7 +87,7 @@ module _ (sm ss : Settings) where
 
   pub settled-next : Lawful ss → (t : Two) → Settled (slotStep t)
   unfolding slotStep
-  settled-next L t = L .idem (wire (next t .lines)) (wire (t .m .lines)) (wire (next t .lines)) (t .s)
+  settled-next L t = L (wire (next t .lines)) (wire (t .m .lines)) (wire (next t .lines)) (t .s)
 
   cycle-first : (x y : Side) (p q r : Pins) → Live (acted sm (elapsedSide 0 x) (line y) .engine) → 1 < sm .divisor .0
       → coreCycle sm ss (mk (elapsedSide 0 x) y p q r) ≡ mk (elapsedSide 1 (acted sm (elapsedSide 0 x) (line y))) (slaveSide ss r q y) (wire (x .lines)) p q
@@ -147,7 +147,7 @@ module _ (sm ss : Settings) where
         (more (qm′ 2, qs) (cycle-within y 1 s n o o k live (omega arith) ∙ ap (λ (u : Side). mk (elapsedSide 3 y) u n n o) z)
         (more (qm′ 3, qs) (cycle-within y 2 s n n o k live (omega arith))
         (more (qm′ 4, qs′) (cycle-within y 3 s′ n n n k live (omega arith))
-        (rest-trace (sm .divisor .0 - 6) 4 y (slaveSide ss n n s′) k live (L .idem n o n s) qm′ qs″ (omega arith)))))))
+        (rest-trace (sm .divisor .0 - 6) 4 y (slaveSide ss n n s′) k live (L n o n s) qm′ qs″ (omega arith)))))))
 
 -- Slots in a row -------------------------------------------------------------------------------------------------------
 

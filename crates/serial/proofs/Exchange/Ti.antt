@@ -2,7 +2,7 @@
 use Prim.Native.Nat.{ℕ, zero, suc, _+_, _-_, _*_, _≤_, _<_}
 use mathlib.Core.Path.{_≡_, refl, ap, ap₂, _∙_}
 use mathlib.Core.Bool.{Bool, true, false, not, _&&_}
-use mathlib.Core.List.{List, [], _∷_, map}
+use mathlib.Core.List.{List, [], _∷_}
 use native.Mathlib.Omega.{arith}
 use lib.Dec.{eqb}
 use lib.ListN.{length}
@@ -29,7 +29,7 @@ use Rattle.serial.proofs.Exchange.Quiet.{quiet-ti}
 use Rattle.serial.proofs.Events.{lowAt, ti-drive, ti-capture, ti-last, ti-levels-even, ti-levels-odd}
 use Rattle.serial.proofs.Exchange.Moves.{Queues, shown, hidden, acted-by, next-in, capture-in, completed, capture-last, slave-by, Slot, slot-of, LiveSlot, slot-then}
 use Rattle.serial.proofs.Exchange.Motorola.{received, next-bit, last-bit}
-use Rattle.serial.proofs.Exchange.Ends.{front, holding, pushAll, answers, Holds, Exchange}
+use Rattle.serial.proofs.Exchange.Wiring.{front, holding, Holds, starts, lastOf, Exchange}
 use Rattle.serial.specs.declared.engine.Engine.{Engine}
 use Rattle.serial.specs.declared.engine.Shift.{Shift}
 use Rattle.serial.specs.declared.engine.Step.{Step}
@@ -105,11 +105,7 @@ module _ (phase : Bool) (b h : ℕ) where
   -- The states -----------------------------------------------------------------------------------------------------------
 
   abbrev idle : Queues → Two
-  idle k =
-      record {
-        m = record { tx = k .mtx; rx = k .mrx; engine = cleared; lines = tiIdle };
-        s = record { tx = k .stx; rx = k .srx; engine = cleared; lines = hidden };
-      }
+  idle = starts tiIdle
 
   -- slot 0 of a first word is over
   abbrev openedAt : ℕ → Queues → Two
@@ -335,12 +331,11 @@ module _ (phase : Bool) (b h : ℕ) where
         (slot-then (capture-slot w (front vs) k m (b - 2) (2 * b - 1) (omega arith) (omega arith)) refl
         (trace-end none (ap (capturedAt w (front vs) k (b - 2)) (omega arith))))))
 
-    abbrev lastOf : ℕ → List ℕ → Receiver → List ℕ → Receiver → Two
-    lastOf w [] q vs r = doneAt (received b w (front vs) (holding [] q (rest vs) r)) (bitOf b w (b - 2 + 1))
-    lastOf w (u ∷ ws) q vs r = lastOf u ws (push (cut b (front vs)) q) (rest vs) (push (cut b w) r)
+    abbrev finalAt : ℕ → Receiver → List ℕ → Receiver → Two
+    finalAt w q vs r = doneAt (received b w (front vs) (holding [] q (rest vs) r)) (bitOf b w (b - 2 + 1))
 
     words-run : (w : ℕ) (ws : List ℕ) (q : Receiver) (vs : List ℕ) (r : Receiver) (c : ℕ) (d : Bool) (g : ℕ) (e : Bool)
-        → Trace (LiveSlot sm ss) (slotStep sm ss) (suc (length ws) * (2 * b)) (markedAt w (holding ws q vs r) c d g e) (lastOf w ws q vs r)
+        → Trace (LiveSlot sm ss) (slotStep sm ss) (suc (length ws) * (2 * b)) (markedAt w (holding ws q vs r) c d g e) (lastOf b b finalAt w ws q vs r)
     words-run w [] q vs r c d g e =
         trace-count (omega arith)
         (trace-then (word-run w [] q vs r c d g e)
@@ -354,7 +349,7 @@ module _ (phase : Bool) (b h : ℕ) where
         (words-run u ws (push (cut b (front vs)) q) (rest vs) (push (cut b w) r) (b - 2 + 1 + 1) (bitOf b w (b - 2 + 1)) (cut b (front vs)) false))))
 
     load-run : (w : ℕ) (ws : List ℕ) (q : Receiver) (vs : List ℕ) (r : Receiver)
-        → Trace (LiveSlot sm ss) (slotStep sm ss) (2 * b * suc (length ws) + 2) (idle (holding (w ∷ ws) q vs r)) (lastOf w ws q vs r)
+        → Trace (LiveSlot sm ss) (slotStep sm ss) (2 * b * suc (length ws) + 2) (idle (holding (w ∷ ws) q vs r)) (lastOf b b finalAt w ws q vs r)
     load-run w ws q vs r =
         trace-count (omega arith)
         (slot-then (open-slot w ws q vs r) refl
@@ -371,26 +366,12 @@ module _ (phase : Bool) (b h : ℕ) where
     done-ever zero q vs r d e f₁ d₁ f₂ d₂ f₃ d₃ = (refl, refl)
     done-ever (suc i) q vs r d e f₁ d₁ f₂ d₂ f₃ d₃ = done-ever i q vs r false true false (d && not e) f₁ d₁ f₂ d₂
 
-    last-ever : (w : ℕ) (ws : List ℕ) (q : Receiver) (vs : List ℕ) (r : Receiver) (i : ℕ)
-        → Holds (pushAll (map (cut b) (answers (w ∷ ws) vs)) q) (pushAll (map (cut b) (w ∷ ws)) r) (iterate i (coreCycle sm ss) (rested (lastOf w ws q vs r)))
+    final-ever : (w : ℕ) (q : Receiver) (vs : List ℕ) (r : Receiver) (i : ℕ) → Holds (push (cut b (front vs)) q) (push (cut b w) r) (iterate i (coreCycle sm ss) (rested (finalAt w q vs r)))
     unfolding wire
-    last-ever w [] q vs r i =
+    final-ever w q vs r i =
         let d = bitOf b w (b - 2 + 1) in
         done-ever i (push (cut b (front vs)) q) (rest vs) (push (cut b w) r) d false false (d && true) false (d && true) false (d && true)
-    last-ever w (u ∷ ws) q vs r i = last-ever u ws (push (cut b (front vs)) q) (rest vs) (push (cut b w) r) i
 
-    idle-stays : (q : Receiver) (vs : List ℕ) (r : Receiver) → coreCycle sm ss (rested (idle (holding [] q vs r))) ≡ rested (idle (holding [] q vs r))
-    unfolding coreCycle masterSide acted masterStep masterEnd acting resting masterLines masterTxd slaveLines slaveEnd slaveStep tiSlave slaveSide wire
-    idle-stays q vs r = refl
-
-    pub exchange : Exchange (plain Ti phase b h false) (plain Ti phase b h true) b (lined false false false true) (λ n. 2 * b * suc n + 2)
-    unfolding slaveSide slaveStep tiSlave slaveEnd slaveLines wire
-    exchange =
-        record {
-          last = lastOf;
-          settled = λ k. refl;
-          holds = λ k. (refl, refl);
-          run = load-run;
-          ever = last-ever;
-          rest = idle-stays;
-        }
+    pub exchange : Exchange (plain Ti phase b h false) (plain Ti phase b h true) (lined false false false true) (λ n. 2 * b * suc n + 2)
+    unfolding widthOf
+    exchange = record { final = finalAt; run = load-run; ever = final-ever }

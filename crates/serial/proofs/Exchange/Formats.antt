@@ -1,0 +1,57 @@
+-- The formats of a wired pair: Motorola with SPH 0 and SPH 1, and TI.
+use Prim.Native.Nat.{ℕ, suc, _+_, _*_, _≤_}
+use mathlib.Core.Path.{_≡_, refl, sym, subst}
+use mathlib.Core.Bool.{Bool, true, false}
+use mathlib.Core.Logic.{_⊎_, inl, inr}
+use native.Mathlib.Omega.{arith}
+use native.Mathlib.Nat.{le-refl}
+use Rattle.registers.specs.Time.{cyclesOf}
+use Rattle.registers.specs.declared.settings.Format.{Format}
+use Rattle.registers.specs.declared.settings.Format.the-variants.{Motorola, Ti}
+use Rattle.serial.specs.Slave.{slaveStep, tiSlave}
+use Rattle.serial.specs.Pair.{wire}
+use Rattle.serial.proofs.Exchange.Quiet.{lawful-motorola, lawful-ti}
+use Rattle.serial.proofs.Exchange.Turn.{turned-motorola, turned-ti}
+use Rattle.serial.proofs.Exchange.Wiring.{Wiring}
+use Rattle.serial.proofs.Exchange.Ends.{still-motorola}
+use Rattle.serial.proofs.Exchange.Phase0 as phase0
+use Rattle.serial.proofs.Exchange.Phase1 as phase1
+use Rattle.serial.proofs.Exchange.Ti as ti-words
+
+module _ (b h : ℕ) (l : 4 ≤ b) (m : b ≤ 16) (k : 6 ≤ h) where
+  motorola : (phase : Bool) → Wiring Motorola phase b h
+  unfolding cyclesOf
+  motorola false =
+      record {
+        lawful = lawful-motorola false b h;
+        still = still-motorola false b h;
+        turned = turned-motorola false b h;
+        slots = λ n. n * (2 * b + 4) + (2 * b + 2);
+        exchange = phase0.exchange b h (omega arith) m k;
+        in-time = λ n. omega arith;
+      }
+  motorola true =
+      record {
+        lawful = lawful-motorola true b h;
+        still = still-motorola true b h;
+        turned = turned-motorola true b h;
+        slots = λ n. 2 * b * suc n + 2;
+        exchange = phase1.exchange b h (omega arith) m k;
+        in-time = λ n. omega arith;
+      }
+
+  ti : (phase : Bool) → Wiring Ti phase b h
+  unfolding cyclesOf slaveStep tiSlave wire
+  ti phase =
+      record {
+        lawful = lawful-ti phase b h;
+        still = λ n. refl;
+        turned = turned-ti phase b h;
+        slots = λ n. 2 * b * suc n + 2;
+        exchange = ti-words.exchange phase b h (omega arith) m;
+        in-time = λ n. le-refl _;
+      }
+
+  pub wiring-of : (f : Format) → (f ≡ Motorola) ⊎ (f ≡ Ti) → (phase : Bool) → Wiring f phase b h
+  wiring-of f (inl e) phase = subst (λ (f : Format). Wiring f phase b h) (sym e) (motorola phase)
+  wiring-of f (inr e) phase = subst (λ (f : Format). Wiring f phase b h) (sym e) (ti phase)
