@@ -167,7 +167,7 @@ enum pl022_line {
  * Where a record keeps each field, in bytes from its start. A field is one byte if no
  * length is given; in longer ones the low byte comes first.
  */
-enum pl022_place {
+enum pl022_record_offset {
     PL022_RECORD_CR0 = 0,               /* 2 bytes */
     PL022_RECORD_CR1 = 2,
     PL022_RECORD_CPSR = 3,

@@ -1,5 +1,5 @@
 // Prints recordings of every format through the proved code, a line each: a name, then a digit a cycle.
-// What it must write was made before from the build paper (P1 to P5) and by the second program in compare/.
+// What it must write was made before from the rules of docs/MODEL.md (P1 to P5) and by the second program in compare/.
 use libc::STDOUT_FILENO;
 use registers::access::Answer;
 use serial::Device;
@@ -136,7 +136,7 @@ fn put_three(d: Device) {
     put_received(third);
 }
 
-// P1 to P5 of the build paper, P1 and P2 with SPO 1 too.
+// P1 to P5, P1 and P2 with SPO 1 too.
 fn paper() {
     master(b"P1", 0x0003, 2, &[0xA], 12);
     master(b"P1 SPO 1", 0x0043, 2, &[0xA], 12);

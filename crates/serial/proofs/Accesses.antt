@@ -14,7 +14,7 @@ use Rattle.registers.specs.Access.{readRefusal, readWord, readDone, readModel, 
 use Rattle.registers.specs.declared.access.Answer.the-variants.{Word, Refused}
 use Rattle.registers.specs.declared.offsets.Register.{Register}
 use Rattle.registers.specs.declared.offsets.Register.the-variants.{Cr0, Cr1, Dr, Sr, Cpsr, Imsc, Ris, Mis, Icr, Dmacr, Identity, Reserved, Outside}
-use Rattle.serial.specs.Cycle.{DeviceModel, activeDevice}
+use Rattle.serial.specs.Cycle.{DeviceModel, activeDevice, withRegisters, withEngine}
 use Rattle.registers.proofs.Picks.{pick-no, pick-both}
 use Rattle.serial.specs.Engine.{cleared}
 use Rattle.serial.specs.Access.{readAnswerOf, readDevice, writeRefusalOf, engineAfter, writeDevice}
@@ -107,7 +107,7 @@ unfolding readAnswerOf readAnswer readDevice readModel
 read-same d o h = go (eqb (readRefusal (d .registers) (registerOf o)) 0) h
   where
     go : (t : Bool) → eqb (refusalOf (pick t (Word (readWord (d .registers) (d .engine .frame) (registerOf o))) (Refused (readRefusal (d .registers) (registerOf o))))) 0 ≡ false
-        → _≡_ {A = DeviceModel} (record { registers = pick t (readDone (d .registers) (registerOf o)) (d .registers); engine = d .engine; pins = d .pins; lines = d .lines }) d
+        → _≡_ {A = DeviceModel} (withRegisters d (pick t (readDone (d .registers) (registerOf o)) (d .registers))) d
     go true k = absurd (true≢false k)
     go false k = refl
 
@@ -123,8 +123,8 @@ pub write-same : (d : DeviceModel) (o v : ℕ) → eqb (writeRefusalOf d o v) 0 
 unfolding writeRefusalOf writeDevice writeModel
 write-same d o v h =
     let m = d .registers in
-    ap (λ (x : Model). record { registers = x; engine = engineAfter m x (d .engine); pins = d .pins; lines = d .lines }) (pick-no (writeDone m (registerOf o) v) m h)
-    ∙ ap (λ (e : Engine). record { registers = m; engine = e; pins = d .pins; lines = d .lines }) (same-engine m (d .engine))
+    ap (λ (x : Model). withEngine (withRegisters d x) (engineAfter m x (d .engine))) (pick-no (writeDone m (registerOf o) v) m h)
+    ∙ ap (withEngine d) (same-engine m (d .engine))
 
 -- A read of another register than DR changes nothing: a host may poll SR -----------------------------------------------
 
@@ -148,5 +148,5 @@ unfolding readDevice readModel
 read-other-same d o h =
     let m = d .registers in
     let p = registerOf o in
-    ap (λ (x : Model). record { registers = x; engine = d .engine; pins = d .pins; lines = d .lines })
+    ap (withRegisters d)
     (pick-both (λ (x : Model). x ≡ m) (eqb (readRefusal m p) 0) (readDone m p) m (λ _. read-done-same m p h) (λ _. refl))

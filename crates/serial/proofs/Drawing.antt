@@ -1,5 +1,5 @@
 -- A master's lines are the drawing of its load, and determine it: demand 3's last sentence. Recorded and Enabled are the ends.
-pub mod Told
+pub mod Injective
 pub mod Solo
 pub mod Slot
 pub mod MotorolaWords

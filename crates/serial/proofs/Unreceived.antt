@@ -5,13 +5,14 @@ use mathlib.Core.Bool.{Bool, true, false, _&&_}
 use mathlib.Core.List.{List}
 use lib.Dec.{ltb, eqb}
 use lib.ListN.{getD}
+use Rattle.serial.specs.Slave.{withMark}
 use Rattle.registers.specs.Choose.{pick}
 use Rattle.registers.proofs.Picks.{pick-no, pick-alike}
 use Rattle.registers.specs.Settings.{settingsOf}
 use Rattle.registers.specs.Transfer.{rest, waitingOf, nextWord}
 use Rattle.registers.specs.declared.Control.{Control}
 use Rattle.registers.specs.declared.settings.Settings.{Settings}
-use Rattle.serial.specs.Engine.{cleared, driven, capturedOf, captureStep, noWord}
+use Rattle.serial.specs.Engine.{cleared, driven, capturedOf, captureStep, noWord, withShift, withSelected}
 use Rattle.serial.specs.Slots.{eventOf, lastSlot}
 use Rattle.serial.specs.Lines.{masterLines, linesOf, masterTxd}
 use Rattle.serial.specs.Master.{joinedShift, act, resting, acting, dataBit, masterStep, ticked, masterEnd}
@@ -28,7 +29,7 @@ abbrev pub shiftWithoutReceived : Shift → Shift
 shiftWithoutReceived x = record { captured = x .captured; level = x .level; sending = x .sending; receiving = 0 }
 
 abbrev pub withoutReceived : Engine → Engine
-withoutReceived e = record { slot = e .slot; elapsed = e .elapsed; frame = e .frame; selected = false; mark = false; shift = shiftWithoutReceived (e .shift) }
+withoutReceived e = withMark (withSelected (withShift e (shiftWithoutReceived (e .shift))) false) false
 
 abbrev pub stepWithoutReceived : Step → Step
 stepWithoutReceived r = record { engine = withoutReceived (r .engine); takes = r .takes; complete = false; word = 0 }
@@ -42,7 +43,7 @@ captured-unreceived b bit bit′ x = pick-alike shiftWithoutReceived (ltb (x .ca
 capture-unreceived : (b : ℕ) (bit bit′ : Bool) (e : Engine) → stepWithoutReceived (captureStep b bit e) ≡ stepWithoutReceived (captureStep b bit′ (withoutReceived e))
 unfolding captureStep
 capture-unreceived b bit bit′ e =
-    ap (λ (x : Shift). noWord (record { slot = e .slot; elapsed = e .elapsed; frame = e .frame; selected = false; mark = false; shift = x })) (captured-unreceived b bit bit′ (e .shift))
+    ap (λ (x : Shift). noWord (withMark (withSelected (withShift e x) false) false)) (captured-unreceived b bit bit′ (e .shift))
 
 act-unreceived : (s : Settings) (e : Engine) (waiting : Bool) (next : ℕ) (bit bit′ : Bool) (v : Event)
     → stepWithoutReceived (act s e waiting next bit v) ≡ stepWithoutReceived (act s (withoutReceived e) waiting next bit′ v)

@@ -12,7 +12,7 @@ use Rattle.registers.specs.Transfer.{waitingOf, nextWord}
 use Rattle.registers.specs.declared.Control.{Control}
 use Rattle.registers.specs.declared.settings.Settings.{Settings}
 use Rattle.registers.specs.declared.time.Cycles.{Cycles}
-use Rattle.serial.specs.Engine.{cleared, noWord, captureStep}
+use Rattle.serial.specs.Engine.{cleared, noWord, captureStep, withElapsed, withNextSlot, withFrame, withSlot}
 use Rattle.serial.specs.Slots.{eventOf, lastSlot}
 use Rattle.serial.specs.Lines.{masterLines, linesOf, masterTxd}
 use Rattle.serial.specs.Master.{act, resting, acting, dataBit, masterStep, ticked, masterEnd}
@@ -37,11 +37,11 @@ step-within s e waiting next rxd h =
 
 -- with c cycles of the slot elapsed
 abbrev pub elapsedAt : ℕ → Engine → Engine
-elapsedAt c e = record { slot = e .slot; elapsed = cycles c; frame = e .frame; selected = e .selected; mark = e .mark; shift = e .shift }
+elapsedAt c e = withElapsed e (cycles c)
 
 -- in slot n of a frame
 abbrev pub sending : ℕ → Shift → Engine
-sending n x = record { slot = slots n; elapsed = cycles 0; frame = true; selected = false; mark = false; shift = x }
+sending n x = withFrame (withSlot cleared (slots n)) true x
 
 abbrev pub shifted : ℕ → Bool → ℕ → ℕ → Shift
 shifted c d w r = record { captured = c; level = d; sending = w; receiving = r }
@@ -66,7 +66,7 @@ unfolding masterStep
 step-elapsed s c e w n d =
     let x = elapsedAt c e in
     let y = masterStep s x w n d .engine in
-    ap (λ (g : Cycles). record { slot = y .slot; elapsed = g; frame = y .frame; selected = y .selected; mark = y .mark; shift = y .shift })
+    ap (λ (g : Cycles). withElapsed y g)
     (pick-both (λ (r : Step). r .engine .elapsed ≡ cycles c) (acting x w) _ _ (λ _. act-elapsed s x w n (dataBit s (masterTxd s x) d) (eventOf s (e .slot))) (λ _. refl))
 
 -- The end of a cycle ---------------------------------------------------------------------------------------------------
@@ -80,7 +80,7 @@ module _ (s : Settings) where
   unfoldable pub nextSlot : Engine → Engine
   nextSlot e =
       pick (ltb (e .slot .0) (lastSlot s .0))
-      (record { slot = slots (e .slot .0 + 1); elapsed = cycles 0; frame = e .frame; selected = e .selected; mark = e .mark; shift = e .shift })
+      (withNextSlot e)
       cleared
 
   -- after c cycles of the slot
@@ -104,7 +104,7 @@ module _ (s : Settings) where
 
   -- a slot in a frame, and the last one
   pub next-within : (e : Engine) → e .slot .0 < lastSlot s .0
-      → nextSlot e ≡ record { slot = slots (e .slot .0 + 1); elapsed = cycles 0; frame = e .frame; selected = e .selected; mark = e .mark; shift = e .shift }
+      → nextSlot e ≡ withNextSlot e
   unfolding nextSlot
   next-within e l = pick-yes _ _ (lt-ltb (e .slot .0) (lastSlot s .0) l)
 

@@ -9,7 +9,7 @@ use Rattle.registers.specs.Access.{readAnswer, readModel, writeRefusal, writeMo
 use Rattle.registers.specs.Model.{Model}
 use Rattle.registers.specs.declared.access.Answer.{Answer}
 use Rattle.serial.specs.Engine.{cleared}
-use Rattle.serial.specs.Cycle.{DeviceModel, deviceOf, activeDevice}
+use Rattle.serial.specs.Cycle.{DeviceModel, deviceOf, activeDevice, withRegisters, withEngine}
 use Rattle.serial.specs.declared.engine.Engine.{Engine}
 use Rattle.serial.specs.declared.access.Reading.{Reading}
 use Rattle.serial.specs.declared.access.Written.{Written}
@@ -19,7 +19,7 @@ unfoldable pub readAnswerOf : DeviceModel → ℕ → Answer
 readAnswerOf d o = readAnswer (d .registers) (d .engine .frame) o
 
 unfoldable pub readDevice : DeviceModel → ℕ → DeviceModel
-readDevice d o = record { registers = readModel (d .registers) o; engine = d .engine; pins = d .pins; lines = d .lines }
+readDevice d o = withRegisters d (readModel (d .registers) o)
 
 -- The refusal number of a write, 0 if it is done.
 unfoldable pub writeRefusalOf : DeviceModel → ℕ → ℕ → ℕ
@@ -32,7 +32,7 @@ engineAfter old new e = pick (enabledOf (old .control) && not (enabledOf (new .c
 unfoldable pub writeDevice : DeviceModel → ℕ → ℕ → DeviceModel
 writeDevice d o v =
     let m = writeModel (d .registers) (activeDevice d) o v in
-    record { registers = m; engine = engineAfter (d .registers) m (d .engine); pins = d .pins; lines = d .lines }
+    withEngine (withRegisters d m) (engineAfter (d .registers) m (d .engine))
 
 pub record Read (d : DeviceModel) (o : ℕ) (r : Reading) : Type 0 where
   pub answer : r .answer ≡ readAnswerOf d o

@@ -31,6 +31,14 @@ pub record DeviceModel : Type 0 where
 unfoldable pub deviceOf : Device → DeviceModel
 deviceOf d = record { registers = modelOf (d .registers); engine = d .engine; pins = d .pins; lines = d .lines }
 
+-- The device with one part replaced.
+
+abbrev pub withRegisters : DeviceModel → Model → DeviceModel
+withRegisters d m = record { registers = m; engine = d .engine; pins = d .pins; lines = d .lines }
+
+abbrev pub withEngine : DeviceModel → Engine → DeviceModel
+withEngine d e = record { registers = d .registers; engine = e; pins = d .pins; lines = d .lines }
+
 -- Pins count as LOW before the first cycle.
 abbrev pub lowPins : Pins
 lowPins = record { clk = false; fss = false; rxd = false }

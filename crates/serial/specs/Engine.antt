@@ -5,6 +5,7 @@ use lib.Dec.{ltb, eqb}
 use Rattle.registers.specs.Choose.{pick}
 use Rattle.registers.specs.Time.{cycles, slots}
 use Rattle.registers.specs.declared.settings.Settings.{Settings}
+use Rattle.registers.specs.declared.time.Cycles.{Cycles}
 use Rattle.registers.specs.declared.time.Slots.{Slots}
 use Rattle.serial.specs.Bits.{bitOf, cut, shiftedIn}
 use Rattle.serial.specs.declared.engine.Shift.{Shift}
@@ -33,6 +34,16 @@ withFrame e f x = record { slot = e .slot; elapsed = e .elapsed; frame = f; sele
 
 abbrev pub withSlot : Engine → Slots → Engine
 withSlot e n = record { slot = n; elapsed = e .elapsed; frame = e .frame; selected = e .selected; mark = e .mark; shift = e .shift }
+
+abbrev pub withElapsed : Engine → Cycles → Engine
+withElapsed e n = record { slot = e .slot; elapsed = n; frame = e .frame; selected = e .selected; mark = e .mark; shift = e .shift }
+
+abbrev pub withSelected : Engine → Bool → Engine
+withSelected e t = record { slot = e .slot; elapsed = e .elapsed; frame = e .frame; selected = t; mark = e .mark; shift = e .shift }
+
+-- The next slot begins.
+abbrev pub withNextSlot : Engine → Engine
+withNextSlot e = withElapsed (withSlot e (slots (e .slot .0 + 1))) (cycles 0)
 
 -- A word is taken; nothing of it is on TXD yet.
 abbrev pub loaded : ℕ → Shift

@@ -7,7 +7,7 @@ use Rattle.registers.specs.Time.{cycles, slots}
 use Rattle.registers.specs.declared.time.Slots.{Slots}
 use Rattle.registers.specs.declared.settings.Settings.{Settings}
 use Rattle.serial.specs.Bits.{bitOf}
-use Rattle.serial.specs.Engine.{clearShift, cleared, withShift, withFrame, withSlot, loaded, started, driven, quieted, noWord, begun, captureStep}
+use Rattle.serial.specs.Engine.{clearShift, cleared, withShift, withFrame, withSlot, loaded, started, driven, quieted, noWord, begun, captureStep, withElapsed, withNextSlot}
 use Rattle.serial.specs.Lines.{masterTxd}
 use Rattle.serial.specs.Slots.{eventOf, lastSlot, widthOf, captureWidth}
 use Rattle.serial.specs.declared.engine.Shift.{Shift}
@@ -72,9 +72,9 @@ masterStep s e waiting next rxd =
 unfoldable pub ticked : Settings → Engine → Engine
 ticked s e =
     pick (ltb (e .elapsed .0 + 1) (s .divisor .0))
-    (record { slot = e .slot; elapsed = cycles (e .elapsed .0 + 1); frame = e .frame; selected = e .selected; mark = e .mark; shift = e .shift })
+    (withElapsed e (cycles (e .elapsed .0 + 1)))
     (pick (ltb (e .slot .0) (lastSlot s .0))
-    (record { slot = slots (e .slot .0 + 1); elapsed = cycles 0; frame = e .frame; selected = e .selected; mark = e .mark; shift = e .shift })
+    (withNextSlot e)
     cleared)
 
 -- The end of a master's cycle.

@@ -25,7 +25,7 @@ pub data Step : Type 0 where
   -- the input byte of every cycle, the number of cycles; of their lines the row says nothing
   Pass : ℕ → ℕ → Step
 
--- A row: the number that the paper gives it, and its steps from reset.
+-- A row: its number, and its steps from reset.
 pub data Row : Type 0 where
   P : ℕ → List Step → Row
 

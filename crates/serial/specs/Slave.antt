@@ -6,7 +6,7 @@ use Rattle.registers.specs.Choose.{pick}
 use Rattle.registers.specs.declared.settings.Format.{Format}
 use Rattle.registers.specs.declared.settings.Format.the-variants.{Motorola, Ti, Microwire, Reserved}
 use Rattle.registers.specs.declared.settings.Settings.{Settings}
-use Rattle.serial.specs.Engine.{clearShift, cleared, withShift, withFrame, started, driven, noWord, captureStep}
+use Rattle.serial.specs.Engine.{clearShift, cleared, withShift, withFrame, started, driven, noWord, captureStep, withSelected}
 use Rattle.serial.specs.Slots.{captureWidth}
 use Rattle.serial.specs.Lines.{differ}
 use Rattle.serial.specs.Master.{dataBit}
@@ -14,9 +14,13 @@ use Rattle.serial.specs.declared.engine.Engine.{Engine}
 use Rattle.serial.specs.declared.engine.Step.{Step}
 use Rattle.serial.specs.declared.lines.Pins.{Pins}
 
+-- The word that a slave sends: the next one if it may take it, else zeros.
+abbrev pub offered : Bool → ℕ → ℕ
+offered may next = pick may next 0
+
 -- The one way in which a slave takes a word: its frame begins with the word's first bit on TXD. It may take one while SSE is 1; where it may not, or no word waits, it sends zeros.
 abbrev pub slaveTake : Settings → Engine → Bool → ℕ → Step
-slaveTake s e may next = record { engine = withFrame e true (started (s .bits) (pick may next 0)); takes = may; complete = false; word = 0 }
+slaveTake s e may next = record { engine = withFrame e true (started (s .bits) (offered may next)); takes = may; complete = false; word = 0 }
 
 -- With c bits captured it drives bit c.
 abbrev pub slaveDrive : Settings → Engine → Step
@@ -26,7 +30,7 @@ slaveDrive s e = noWord (withShift e (driven (s .bits) (e .shift .captured) (e .
 
 -- The engine selected by a FSS fall.
 abbrev pub selectedOf : Engine → Engine
-selectedOf e = record { slot = e .slot; elapsed = e .elapsed; frame = false; selected = true; mark = e .mark; shift = clearShift }
+selectedOf e = withSelected (withFrame e false clearShift) true
 
 -- A FSS fall selects; with SPH 0 the next word to send, zeros if there is none, is taken then and its first bit driven.
 unfoldable pub motorolaSelect : Settings → Engine → Bool → ℕ → Step

@@ -1,21 +1,32 @@
 // What a slave does in a cycle: it sees each pin as it stood two cycles earlier, and an edge against the cycle before.
 ghost use mathlib.Core.Path.{_≡_};
-ghost use Rattle.serial.specs.Slave.{slaveTake, slaveDrive, selectedOf, motorolaSelect, captureEdge, driveEdge, motorolaClock, afterTaking, motorolaEdges, motorolaSlave, withMark, tiFalls, tiRises, tiSlave, slaveStep, endedOn, slaveEnd};
+ghost use Rattle.serial.specs.Slave.{offered, slaveTake, slaveDrive, selectedOf, motorolaSelect, captureEdge, driveEdge, motorolaClock, afterTaking, motorolaEdges, motorolaSlave, withMark, tiFalls, tiRises, tiSlave, slaveStep, endedOn, slaveEnd};
 use crate::engine::Engine;
 use crate::engine::Step;
 use crate::lines::Pins;
 use registers::settings::Format;
 use registers::settings::Settings;
 
+// The word that a slave sends.
+fn offered(may: bool, next: u16) -> u16
+    ensures { λ r. ⌜ r ≡ offered may next ⌝ }
+{
+    if may { next } else { 0 }
+}
+
 // The one way to take a word. Where the slave may not take one it sends zeros.
 fn slave_take(s: Settings, e: Engine, may: bool, next: u16) -> Step
     ensures { λ r. ⌜ r ≡ slaveTake s e may next ⌝ }
 {
-    if may {
-        return crate::engine::begun(e, crate::engine::started(s.bits as u16, next));
+    let word = offered(may, next);
+    let shift = crate::engine::started(s.bits as u16, word);
+    let framed = crate::engine::with_frame(e, true, shift);
+    Step {
+        engine: framed,
+        takes: may,
+        complete: false,
+        word: 0,
     }
-    let zeros = crate::engine::started(s.bits as u16, 0);
-    crate::engine::no_word(crate::engine::with_frame(e, true, zeros))
 }
 
 // With c bits captured it drives bit c.

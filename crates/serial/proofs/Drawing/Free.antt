@@ -25,7 +25,7 @@ use Rattle.serial.specs.Busy.{busyDevice}
 use Rattle.serial.proofs.Cycles.{waits-cons}
 use Rattle.serial.proofs.Trace.{iterate, iterate-add}
 use Rattle.serial.specs.Drawing.{slotTotal, drawing, stretch}
-use Rattle.serial.proofs.Drawing.Told.{Serves, idle-released, length-stretch, length-drawing}
+use Rattle.serial.proofs.Drawing.Injective.{Serves, idle-released, length-stretch, length-drawing}
 use Rattle.serial.proofs.Unreceived.{withoutReceived, shiftWithoutReceived, stepWithoutReceived}
 use Rattle.serial.proofs.WithinSlot.{elapsedAt, Live, afterCycles, after-within, sending, shifted}
 use Rattle.serial.proofs.Drawing.Solo.{Solo, moves, acted, cycle, soloOf, Runs, solo-cycle, runs-cycle, Goes, none, more}

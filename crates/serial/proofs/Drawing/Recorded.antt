@@ -5,19 +5,19 @@ use mathlib.Core.Bool.{Bool, true, false}
 use mathlib.Core.List.{List, [], _∷_, _++_, map}
 use native.Mathlib.Omega.{arith}
 use lib.ListN.{length, length-append, replicate, length-replicate}
-use Rattle.registers.specs.Settings.{settingsOf}
+use Rattle.registers.specs.Settings.{settingsOf, settingsBy}
 use Rattle.registers.specs.Time.{cycles, slots, cyclesOf}
 use Rattle.registers.specs.declared.settings.Format.{Format}
 use Rattle.registers.specs.declared.settings.Format.the-variants.{Motorola, Ti, Microwire, Reserved}
 use Rattle.registers.specs.declared.settings.Settings.{Settings}
 use Rattle.serial.specs.Bits.{cut}
-use Rattle.serial.specs.Engine.{clearShift}
+use Rattle.serial.specs.Engine.{clearShift, cleared, withFrame, withElapsed, withSlot}
 use Rattle.serial.specs.Slots.{widthOf}
 use Rattle.serial.specs.Lines.{byteOf, masterLines, masterTxd}
 use Rattle.serial.specs.Master.{resting, acting, masterStep, masterEnd}
 use Rattle.serial.specs.Cycle.{DeviceModel, recording}
 use Rattle.serial.specs.Drawing.{slotTotal, idle, drawingOn, drawing, stretch}
-use Rattle.serial.proofs.Drawing.Told.{Serves, bytes-injective, length-stretch, length-drawing}
+use Rattle.serial.proofs.Drawing.Injective.{Serves, bytes-injective, length-stretch, length-drawing}
 use Rattle.serial.proofs.Unreceived.{withoutReceived, shiftWithoutReceived}
 use Rattle.serial.proofs.Drawing.Solo.{moves, acted, cycle, Goes, none, more, recording-goes}
 use Rattle.serial.proofs.Drawing.Slot.{fixed, solo, restAt, Draws, goes-then, draws-goes, over-draws, last-draws, until-draws}
@@ -54,7 +54,7 @@ draws-on s Reserved phase r l x w ws = absurd (r refl)
 
 pub fixed-own : (s : Settings) → s .slave ≡ false → s .enabled ≡ true → fixed (s .format) (s .phase) s ≡ s
 fixed-own s m e =
-    ap₂ (λ (u v : Bool). record { format = s .format; phase = s .phase; polarity = s .polarity; bits = s .bits; divisor = s .divisor; slave = u; sod = s .sod; loopback = s .loopback; enabled = v })
+    ap₂ (λ (u v : Bool). settingsBy (s .format) (s .phase) (s .polarity) (s .bits) (s .divisor) u (s .sod) (s .loopback) v)
     (sym m) (sym e)
 
 none-on : (s : Settings) (f : Format) (phase : Bool) → drawingOn f phase s [] ≡ []
@@ -80,9 +80,9 @@ load-goes s d k x w ws =
 pub fresh-engine : (s : Settings) (d : DeviceModel) → Fresh s d → withoutReceived (d .engine) ≡ restAt (shiftWithoutReceived (d .engine .shift))
 fresh-engine s d k =
     let x = shiftWithoutReceived (d .engine .shift) in
-    ap (λ (n : ℕ). record { slot = slots n; elapsed = d .engine .elapsed; frame = d .engine .frame; selected = false; mark = false; shift = x }) (k .slot)
-    ∙ ap (λ (n : ℕ). record { slot = slots 0; elapsed = cycles n; frame = d .engine .frame; selected = false; mark = false; shift = x }) (k .elapsed)
-    ∙ ap (λ (f : Bool). record { slot = slots 0; elapsed = cycles 0; frame = f; selected = false; mark = false; shift = x }) (k .frame)
+    ap (λ (n : ℕ). withFrame (withElapsed (withSlot cleared (slots n)) (d .engine .elapsed)) (d .engine .frame) x) (k .slot)
+    ∙ ap (λ (n : ℕ). withFrame (withElapsed cleared (cycles n)) (d .engine .frame) x) (k .elapsed)
+    ∙ ap (λ (f : Bool). withFrame cleared f x) (k .frame)
 
 -- with nothing to send a master stays idle
 idle-goes : (s : Settings) (x : Shift) (k : ℕ) → Goes s (replicate k (idle s)) (solo [] (restAt (shiftWithoutReceived x))) (solo [] (restAt (shiftWithoutReceived x)))

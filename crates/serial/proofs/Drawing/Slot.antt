@@ -6,13 +6,14 @@ use mathlib.Core.List.{List, [], _∷_, _++_}
 use native.Mathlib.Omega.{arith}
 use lib.ListN.{getD, replicate}
 use borrow.Author.Tests.{lt-ltb, ne-eqb}
+use Rattle.registers.specs.Settings.{settingsBy}
 use Rattle.registers.specs.Choose.{pick}
 use Rattle.registers.specs.Time.{cycles, slots}
 use Rattle.registers.specs.Transfer.{rest}
 use Rattle.registers.specs.declared.settings.Format.{Format}
 use Rattle.registers.specs.declared.settings.Settings.{Settings}
 use Rattle.serial.specs.Bits.{bitOf}
-use Rattle.serial.specs.Engine.{clearShift, noWord, capturedOf, captureStep}
+use Rattle.serial.specs.Engine.{clearShift, noWord, capturedOf, captureStep, cleared, withShift, withSlot}
 use Rattle.serial.specs.Slots.{eventOf, lastSlot}
 use Rattle.serial.specs.Lines.{masterLines, masterTxd}
 use Rattle.serial.specs.Master.{act, resting, acting, dataBit, masterStep, masterEnd}
@@ -31,7 +32,7 @@ use Rattle.serial.specs.declared.slots.Event.the-variants.{Release}
 -- the settings of an enabled master, with its format and phase
 abbrev pub fixed : Format → Bool → Settings → Settings
 fixed f phase s =
-    record { format = f; phase = phase; polarity = s .polarity; bits = s .bits; divisor = s .divisor; slave = false; sod = s .sod; loopback = s .loopback; enabled = true }
+    settingsBy f phase (s .polarity) (s .bits) (s .divisor) false (s .sod) (s .loopback) true
 
 abbrev pub solo : List ℕ → Engine → Solo
 solo tx e = record { tx = tx; engine = e }
@@ -133,11 +134,11 @@ move n c d w t = record { engine = sending n (shifted c d w 0); takes = t; compl
 
 -- no frame and no idle slot
 abbrev pub restAt : Shift → Engine
-restAt x = record { slot = slots 0; elapsed = cycles 0; frame = false; selected = false; mark = false; shift = x }
+restAt x = withShift cleared x
 
 -- idle slot n
 abbrev pub parkAt : ℕ → Engine
-parkAt n = record { slot = slots n; elapsed = cycles 0; frame = false; selected = false; mark = false; shift = clearShift }
+parkAt n = withSlot cleared (slots n)
 
 module _ (s : Settings) where
   next-on : (n k c : ℕ) (d : Bool) (w : ℕ) (tx : List ℕ) → n + 1 ≡ k → n < lastSlot s .0 → solo tx (nextSlot s (sending n (shifted c d w 0))) ≡ on k c d w tx

@@ -15,7 +15,7 @@ use Rattle.serial.specs.Bits.{bitOf, cut}
 use Rattle.serial.specs.Slots.{widthOf}
 use Rattle.serial.specs.Lines.{idleOn}
 use Rattle.serial.specs.Drawing.{slotTotal, totalOn, low, idle, bitLines, frame0, frames0, chain1, joined, quiet, quiets, chainM, drawingOn, drawing, stretch}
-use Rattle.serial.proofs.Drawing.Told.{Serves, cons-tail, cons-head, nil-cons, append-left, idle-released, told, stretch-injective, length-stretch, length-drawing}
+use Rattle.serial.proofs.Drawing.Injective.{Serves, cons-tail, cons-head, nil-cons, append-left, idle-released, drawing-injective, stretch-injective, length-stretch, length-drawing}
 use Rattle.serial.specs.declared.lines.Lines.{Lines}
 
 -- Behind the list A all entries are x.
@@ -195,7 +195,7 @@ module _ (s : Settings) (r : Serves (s .format)) (two : 2 ≤ s .bits) (h : 0 < 
           let n : length ws ≡ length vs = omega (arith, ltb-false (length ws) (length vs) p, ltb-false (length vs) (length ws) q) in
           let l : length (drawing s ws) ≡ length (drawing s vs) =
           length-drawing s (omega (arith, two)) ws ∙ ap (λ (z : ℕ). slotTotal s z .0) n ∙ sym (length-drawing s (omega (arith, two)) vs) in
-          told s r m two ws vs
+          drawing-injective s r m two ws vs
           (stretch-injective (s .divisor .0) h (drawing s ws) (drawing s vs)
           (append-left (stretch (s .divisor .0) (drawing s ws)) (stretch (s .divisor .0) (drawing s vs)) (replicate j (idle s)) (replicate k (idle s))
           (length-stretch (s .divisor .0) (drawing s ws) ∙ ap (λ (i : ℕ). i * s .divisor .0) l ∙ sym (length-stretch (s .divisor .0) (drawing s vs))) e))

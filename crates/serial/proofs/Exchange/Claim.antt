@@ -8,7 +8,7 @@ use native.Mathlib.Nat.{le-refl}
 use lib.Dec.{ltb}
 use lib.ListN.{length, take, replicate}
 use Rattle.registers.specs.Time.{divisor}
-use Rattle.registers.specs.Settings.{settingsOf, enabledOf, permittedOf}
+use Rattle.registers.specs.Settings.{settingsOf, enabledOf, permittedOf, settingsBy}
 use Rattle.registers.proofs.Picks.{pick-yes, pick-no}
 use Rattle.registers.proofs.Soundness.{sound-elim, bits-least, bits-most}
 use Rattle.registers.specs.Access.{writeModel}
@@ -233,11 +233,11 @@ module _ (p : PairModel) (st : Start p) where
   -- the settings of both once they are on
   on₁ : settingsOf (switchedOn (controlOf master p)) ≡ given (s₁ .format) (s₁ .phase) (s₁ .polarity) (s₁ .bits) (s₁ .divisor .0) false (s₁ .sod)
   on₁ = settings-on (controlOf master p) small₁ off₁
-      ∙ (λ t. record { format = s₁ .format; phase = s₁ .phase; polarity = s₁ .polarity; bits = s₁ .bits; divisor = s₁ .divisor; slave = st .is-master t; sod = s₁ .sod; loopback = st .straight-master t; enabled = true })
+      ∙ (λ t. settingsBy (s₁ .format) (s₁ .phase) (s₁ .polarity) (s₁ .bits) (s₁ .divisor) (st .is-master t) (s₁ .sod) (st .straight-master t) true)
 
   on₂ : settingsOf (switchedOn (controlOf slave p)) ≡ given (s₁ .format) (s₁ .phase) (s₁ .polarity) (s₁ .bits) k₂ true false
   on₂ = settings-on (controlOf slave p) small₂ off₂
-      ∙ (λ t. record { format = st .format t; phase = st .phase t; polarity = st .polarity t; bits = st .size t; divisor = divisor k₂; slave = st .is-slave t; sod = st .output t; loopback = st .straight-slave t; enabled = true })
+      ∙ (λ t. settingsBy (st .format t) (st .phase t) (st .polarity t) (st .size t) (divisor k₂) (st .is-slave t) (st .output t) (st .straight-slave t) true)
 
   abbrev i : Lines
   i = idleOn (settingsOf (controlOf master p) .format) (settingsOf (controlOf master p) .polarity)

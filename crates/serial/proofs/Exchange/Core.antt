@@ -4,6 +4,7 @@ use mathlib.Core.Bool.{Bool, true, false, not, _||_}
 use mathlib.Core.List.{List, [], _∷_, _++_}
 use lib.Dec.{ltb}
 use lib.ListN.{length, getD}
+use Rattle.registers.specs.Settings.{settingsBy}
 use Rattle.registers.specs.Transfer.{added, rest}
 use Rattle.registers.specs.Choose.{pick}
 use Rattle.registers.specs.Time.{divisor}
@@ -39,7 +40,7 @@ pub record Side : Type 0 where
 -- settings with SPO 0, enabled, loopback off, output on
 abbrev pub plain : Format → Bool → ℕ → ℕ → Bool → Settings
 plain f phase b h slave =
-    record { format = f; phase = phase; polarity = false; bits = b; divisor = divisor h; slave = slave; sod = false; loopback = false; enabled = true }
+    settingsBy f phase false b (divisor h) slave false false true
 
 -- a step with its words moved
 abbrev pub moved : Step → Side → Lines → Side

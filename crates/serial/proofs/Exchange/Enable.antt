@@ -8,7 +8,7 @@ use borrow.Author.Tests.{ne-eqb, lt-leb, eqb-false}
 use Rattle.registers.specs.Choose.{bitAt}
 use Rattle.registers.specs.Model.{Model}
 use Rattle.registers.specs.Offsets.{registerOf}
-use Rattle.registers.specs.Settings.{settingsOf, enabledOf, permittedOf, divisorOf}
+use Rattle.registers.specs.Settings.{settingsOf, enabledOf, permittedOf, divisorOf, settingsBy}
 use Rattle.registers.specs.Access.{writeModel, writeRefusal, cr1Written, cr1Rule}
 use Rattle.registers.specs.declared.Control.{Control}
 
@@ -59,17 +59,7 @@ module _ (c : Control) (small : c .cr1 ≤ 15) (off : enabledOf c ≡ false) whe
   now-on = let b = bit-off in omega arith
 
   pub settings-on : settingsOf (switchedOn c)
-      ≡ record {
-        format = settingsOf c .format;
-        phase = settingsOf c .phase;
-        polarity = settingsOf c .polarity;
-        bits = settingsOf c .bits;
-        divisor = settingsOf c .divisor;
-        slave = settingsOf c .slave;
-        sod = settingsOf c .sod;
-        loopback = settingsOf c .loopback;
-        enabled = true;
-      }
+      ≡ settingsBy (settingsOf c .format) (settingsOf c .phase) (settingsOf c .polarity) (settingsOf c .bits) (settingsOf c .divisor) (settingsOf c .slave) (settingsOf c .sod) (settingsOf c .loopback) true
   unfolding settingsOf divisorOf enabledOf
   settings-on = rw (same-loopback, same-role, same-output, now-on)
 

@@ -10,7 +10,7 @@ use Rattle.registers.specs.Time.{cycles, slots}
 use Rattle.registers.specs.Transfer.{rest}
 use Rattle.registers.specs.declared.settings.Format.the-variants.{Motorola}
 use Rattle.serial.specs.Bits.{bitOf, cut}
-use Rattle.serial.specs.Engine.{cleared, clearShift, noWord, loaded}
+use Rattle.serial.specs.Engine.{cleared, clearShift, noWord, loaded, withSlot}
 use Rattle.serial.specs.Slots.{eventOf, motorolaEvent, lastSlot}
 use Rattle.serial.specs.Lines.{masterLines, slaveLines, masterTxd}
 use Rattle.serial.specs.Master.{act, masterStep, acting, resting, dataBit}
@@ -49,7 +49,7 @@ begin-acts phase b h w ws q d =
 
 -- FSS is HIGH again
 abbrev pub parked : ℕ → Engine
-parked n = record { slot = slots n; elapsed = cycles 0; frame = false; selected = false; mark = false; shift = clearShift }
+parked n = withSlot cleared (slots n)
 
 abbrev pub releasedAt : Queues → ℕ → Two
 releasedAt k n = record { m = record { tx = k .mtx; rx = k .mrx; engine = parked n; lines = hidden }; s = idle k .s }

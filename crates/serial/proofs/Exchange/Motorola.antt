@@ -9,7 +9,7 @@ use Rattle.registers.specs.Time.{cycles, slots}
 use Rattle.registers.specs.declared.settings.Format.the-variants.{Motorola}
 use Rattle.registers.specs.declared.settings.Settings.{Settings}
 use Rattle.serial.specs.Bits.{bitOf, cut, shiftedIn}
-use Rattle.serial.specs.Engine.{withShift, noWord, driven, captureStep}
+use Rattle.serial.specs.Engine.{withShift, noWord, driven, captureStep, cleared, withFrame, withSelected}
 use Rattle.serial.specs.Slots.{eventOf, lastSlot, widthOf, motorolaLevels, levelsOf}
 use Rattle.serial.specs.Lines.{masterLines, slaveLines, frameLines, masterTxd}
 use Rattle.serial.specs.Master.{dataBit}
@@ -30,7 +30,7 @@ use Rattle.serial.proofs.Exchange.Quiet.{quiet-low}
 
 -- a slave's engine while it is selected
 abbrev pub chosen : Bool → Shift → Engine
-chosen f x = record { slot = slots 0; elapsed = cycles 0; frame = f; selected = true; mark = false; shift = x }
+chosen f x = withSelected (withFrame cleared f x) true
 
 module _ (phase : Bool) (b h : ℕ) where
   abbrev pub sm : Settings

@@ -84,9 +84,9 @@ module _ (phase : Bool) (b h : ℕ) where
   slave-joins x d d′ n e = rw (le-ltb (x .captured + 1) b (omega arith))
 
   abbrev marking : Engine
-  marking = record { slot = slots 0; elapsed = cycles 0; frame = false; selected = false; mark = true; shift = clearShift }
+  marking = withMark cleared true
 
-  slave-takes : (d r d′ : Bool) (n : ℕ) → slaveStep (plain Ti phase b h true) (record { slot = slots 0; elapsed = cycles 0; frame = false; selected = false; mark = true; shift = clearShift }) (wire (lined false true d r)) (wire (bitLines true false d′)) n
+  slave-takes : (d r d′ : Bool) (n : ℕ) → slaveStep (plain Ti phase b h true) (withMark cleared true) (wire (lined false true d r)) (wire (bitLines true false d′)) n
       ≡ record { engine = sending 0 (shifted 0 (bitOf b n 0) n 0); takes = true; complete = false; word = 0 }
   unfolding slaveStep tiSlave tiRises wire started
   slave-takes d r d′ n = refl

@@ -2,6 +2,7 @@
 use Prim.Native.Nat.{ℕ}
 use mathlib.Core.Path.{_≡_, refl, sym, ap, ap₂, _∙_}
 use mathlib.Core.Bool.{Bool, true, false}
+use Rattle.registers.specs.Settings.{settingsBy}
 use Rattle.registers.specs.Time.{divisor}
 use Rattle.registers.specs.Choose.{pick}
 use Rattle.registers.specs.declared.settings.Format.{Format}
@@ -25,7 +26,7 @@ use Rattle.serial.specs.declared.slots.Levels.{Levels}
 -- Settings with everything named: SPO p, SOD o.
 abbrev pub given : Format → Bool → Bool → ℕ → ℕ → Bool → Bool → Settings
 given f phase p b h slave o =
-    record { format = f; phase = phase; polarity = p; bits = b; divisor = divisor h; slave = slave; sod = o; loopback = false; enabled = true }
+    settingsBy f phase p b (divisor h) slave o false true
 
 -- SPO as far as it means something: the level of the clock when it is not active.
 abbrev pub turns : Format → Bool → Bool

@@ -272,18 +272,18 @@ motorola-injective s false m k ws vs e = frames0-injective s m ws vs e
 abbrev pub Serves : Format → Type 0
 Serves f = f ≡ Reserved → ⊥
 
-told-on : (f : Format) → Serves f → (s : Settings) → s .bits ≤ 16 → 2 ≤ s .bits → (ws vs : List ℕ)
+drawing-injective-on : (f : Format) → Serves f → (s : Settings) → s .bits ≤ 16 → 2 ≤ s .bits → (ws vs : List ℕ)
     → drawingOn f (s .phase) s ws ≡ drawingOn f (s .phase) s vs → map (cut (widthOn f (s .bits))) ws ≡ map (cut (widthOn f (s .bits))) vs
-told-on Motorola r s m k ws vs e = motorola-injective s (s .phase) m k ws vs e
-told-on Ti r s m k ws vs e = framesTi-injective s m k ws vs e
-told-on Microwire r s m k ws vs e = framesM-injective s ws vs e
-told-on Reserved r s m k ws vs e = absurd (r refl)
+drawing-injective-on Motorola r s m k ws vs e = motorola-injective s (s .phase) m k ws vs e
+drawing-injective-on Ti r s m k ws vs e = framesTi-injective s m k ws vs e
+drawing-injective-on Microwire r s m k ws vs e = framesM-injective s ws vs e
+drawing-injective-on Reserved r s m k ws vs e = absurd (r refl)
 
 -- Two loads with the same drawing are equal after cutting to b bits, Microwire to 8.
-pub told : (s : Settings) → Serves (s .format) → s .bits ≤ 16 → 2 ≤ s .bits → (ws vs : List ℕ)
+pub drawing-injective : (s : Settings) → Serves (s .format) → s .bits ≤ 16 → 2 ≤ s .bits → (ws vs : List ℕ)
     → drawing s ws ≡ drawing s vs → map (cut (widthOf s)) ws ≡ map (cut (widthOf s)) vs
 unfolding drawing widthOf
-told s r m k ws vs e = told-on (s .format) r s m k ws vs e
+drawing-injective s r m k ws vs e = drawing-injective-on (s .format) r s m k ws vs e
 
 -- Bytes ----------------------------------------------------------------------------------------------------------------
 
