@@ -70,10 +70,11 @@ pub record WriteCall (bytes : List ℕ) (o v r : ℕ) (bytes′ : List ℕ) : Ty
 unfoldable pub runCount : Stop → List ℕ → List ℕ → List ℕ → ℕ
 runCount stop bytes ins outs = pick (eqb (runRefusal bytes ins outs) done) (countUntil (stopsOn stop) (decode bytes) ins) 0
 
--- As many cycles as the count says; output bytes past them stay.
+-- The record after as many cycles as the count says.
 abbrev pub runLeft : Stop → List ℕ → List ℕ → List ℕ → List ℕ
 runLeft stop bytes ins outs = leftBy (runRefusal bytes ins outs) (afterBytes (decode bytes) (take (runCount stop bytes ins outs) ins)) bytes
 
+-- Their lines in their places; output bytes past them stay.
 abbrev pub runOutput : Stop → List ℕ → List ℕ → List ℕ → List ℕ
 runOutput stop bytes ins outs = pick (eqb (runRefusal bytes ins outs) done) (written (decode bytes) (runCount stop bytes ins outs) ins outs) outs
 
@@ -96,11 +97,12 @@ pairRefusal one two =
 unfoldable pub pairAfter : List ℕ → List ℕ → ℕ → PairModel
 pairAfter one two n = pairRun n (record { first = decode one; second = decode two })
 
--- Both records hold the devices after that many pair cycles.
+-- Two records.
 pub record Records : Type 0 where
   pub one : List ℕ
   pub two : List ℕ
 
+-- What a pair run leaves: both records hold the devices after that many pair cycles; refused, both are as they were.
 abbrev pub pairLeft : List ℕ → List ℕ → ℕ → Records
 pairLeft one two n =
     record {

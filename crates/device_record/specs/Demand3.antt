@@ -45,7 +45,7 @@ pub record SoundRecords (r : Records) : Type 0 where
 abbrev pub steps : List Step → List Step → PairModel → List Step
 steps pre mid p = pre ++ (enables slave (plays pre p) ∷ (mid ++ (enables master (plays mid (slaveOn pre p)) ∷ [])))
 
--- Two records whose devices exchange their words as demand 3 has it, pair run by pair run on the records themselves.
+-- Two records whose devices exchange their words as demand 3 has it, and a pair run of any length on the records is as many pair cycles of the devices.
 pub record ExchangedRecords (r : Records) : Type 0 where
   pub sound : SoundRecords r
   pub exchanged : Exchanged (devicesOf r)

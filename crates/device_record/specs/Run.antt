@@ -38,10 +38,6 @@ unfoldable pub countUntil : (DeviceModel → Bool) → DeviceModel → List ℕ 
 countUntil stops d [] = 0
 countUntil stops d (p ∷ ps) = elim (stops d) [ true ↦ 0 | false ↦ 1 + countUntil stops (cycleOf d (pinsOf p)) ps ]
 
--- The number of cycles of a run to idle.
-abbrev pub idleCount : DeviceModel → List ℕ → ℕ
-idleCount d ins = countUntil (stopsOn NotBusy) d ins
-
 -- An output buffer after n cycles: the lines of each in its place, the bytes past them as they were.
 unfoldable pub written : DeviceModel → ℕ → List ℕ → List ℕ → List ℕ
 written d n ins outs = outputs d (take n ins) ++ drop n outs

@@ -113,7 +113,7 @@ writeAccess (Identity i) v = wrongAccess
 writeAccess Reserved v = reservedOffset
 writeAccess Outside v = badOffset
 
--- `active` says that the engine is: refusal 5 goes by it, and the layer above knows it.
+-- `active` says whether the engine is active; refusal 5 goes by it, and the layer above knows it.
 
 -- CR0: 5 while active; 6 if it is not permitted.
 unfoldable pub cr0Rule : Bool → ℕ → ℕ

@@ -11,7 +11,7 @@ use Rattle.registers.specs.Transfer.{limitOf}
 use Rattle.registers.specs.declared.Control.{Control}
 use Rattle.registers.specs.declared.Masks.{Masks}
 
--- CR0 is 0 or permitted, CPSR even, CR1 at most 15; active only with permitted CR0 and CPSR not 0.
+-- CR0 is 0 or permitted, CPSR even, CR1 at most 15; the engine active only with permitted CR0 and CPSR not 0.
 unfoldable pub controlSound : Control → Bool → Bool
 controlSound c active =
     ((eqb (c .cr0) 0 || permittedOf (c .cr0)) && eqb (c .cpsr % 2) 0)

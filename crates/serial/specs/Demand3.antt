@@ -136,7 +136,7 @@ due s slave g = map (cut (widthOf s)) (load master g)
 abbrev pub oneMore : Cycles → Cycles
 oneMore n = cycles (n .0 + 1)
 
--- The cycles from a master's enabling to its first BSY 0: its slots up to the one in which the frame ends, and in all but TI the first cycle of that. For a master alone, of each format, proofs/Drawing/Free.antt proves it.
+-- The cycles from a master's enabling to its first BSY 0: the slots before the one that ends the frame and that one's first cycle; TI: all its slots. For a master alone, of each format, proofs/Drawing/Free.antt proves it.
 abbrev pub busyFor : Format → Bool → ℕ → Divisor → ℕ → Cycles
 busyFor f phase b h zero = cycles 0
 busyFor Motorola false b h (suc n) = oneMore (cyclesOf (slots (n * (2 * b + 4) + (2 * b + 2))) h)
@@ -175,7 +175,7 @@ Demand3 =
 
 -- The last sentence ----------------------------------------------------------------------------------------------------
 
--- The write that enables a master. Its load is the transmit queue that it leaves.
+-- The write that enables a master. The load is the transmit queue that this write leaves.
 pub record Enabling (s : Settings) (d : DeviceModel) (o v : ℕ) : Type 0 where
   pub sound : soundDevice d ≡ true
   pub clear : enabledOf (d .registers .control) ≡ false

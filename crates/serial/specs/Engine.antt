@@ -12,7 +12,7 @@ use Rattle.serial.specs.declared.engine.Shift.{Shift}
 use Rattle.serial.specs.declared.engine.Engine.{Engine}
 use Rattle.serial.specs.declared.engine.Step.{Step}
 
--- The engine is active: SSE is 1. Its step, refusal 5 and the bounds of soundness go by this.
+-- The engine is active: SSE is 1. Its step, refusal 5 and the bounds of soundness go by this, but for the RT count, which goes by SSE itself.
 abbrev pub activeOf : Settings → Engine → Bool
 activeOf s e = s .enabled
 

@@ -38,7 +38,7 @@ preparedPair = record { first = preparedMaster 0xA 0x5; second = preparedSlave 0
 abbrev pub before : List Step
 before = cycle ∷ cycle ∷ cycle ∷ cycle ∷ []
 
--- A read of SR and a cycle before the master's.
+-- A read of SR and a cycle before the master's enabling.
 abbrev pub between : List Step
 between = read master SR ∷ cycle ∷ []
 

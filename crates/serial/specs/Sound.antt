@@ -1,4 +1,4 @@
--- A sound device: the whole soundness list. Shift words, held level, pins and last lines are free.
+-- A sound device: the soundness list, but for what only bytes can break (flags, levels, unused places, spare bytes). Shift words, held level, pins and last lines are free.
 use Prim.Native.Nat.{ℕ}
 use mathlib.Core.Bool.{Bool, not, _&&_}
 use lib.Dec.{ltb, leb, eqb}
@@ -11,13 +11,13 @@ use Rattle.serial.specs.Slots.{lastSlot, captureWidth}
 use Rattle.serial.specs.Cycle.{DeviceModel, activeDevice}
 use Rattle.serial.specs.declared.engine.Engine.{Engine}
 
--- Where it is not active: no frame, no selection, no TI mark; slot, cycle and bit counts 0.
+-- Where the engine is not active: no frame, no selection, no TI mark; slot, cycle and bit counts 0.
 unfoldable pub stoppedSound : Engine → Bool
 stoppedSound e =
     ((not (e .frame) && not (e .selected)) && not (e .mark))
     && ((eqb (e .slot .0) 0 && eqb (e .elapsed .0) 0) && eqb (e .shift .captured) 0)
 
--- Where it is active: slot number at most the format's last, cycles gone in the slot below h, captured bits at most the width of a received word, b.
+-- Where the engine is active: slot number at most the format's last, cycles gone in the slot below h, captured bits at most the width of a received word, b.
 unfoldable pub runningSound : Settings → Engine → Bool
 runningSound s e = (leb (e .slot .0) (lastSlot s .0) && ltb (e .elapsed .0) (s .divisor .0)) && leb (e .shift .captured) (captureWidth s)
 
@@ -27,7 +27,7 @@ engineSound s e = pick (activeOf s e) (runningSound s e) (stoppedSound e)
 unfoldable pub soundDevice : DeviceModel → Bool
 soundDevice d = soundRegisters (d .registers) (activeDevice d) && engineSound (settingsOf (d .registers .control)) (d .engine)
 
--- What the bytes of a record can hold: true of every device that the code makes.
+-- What the bytes of a record can hold: true of every device that bytes stand for, and of what accesses and cycles leave of a sound one.
 unfoldable pub deviceFits : DeviceModel → Bool
 deviceFits d =
     registersFit (d .registers)
