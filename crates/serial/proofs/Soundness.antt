@@ -27,7 +27,7 @@ use Rattle.serial.specs.Engine.{clearShift, cleared, withShift, loaded, 
 use Rattle.serial.specs.Slots.{motorolaEvent, tiEvent, microwireEvent, eventOn, eventOf, lastOn, lastSlot, widthOf}
 use Rattle.serial.specs.Lines.{masterTxd}
 use Rattle.serial.specs.Master.{joinedShift, act, resting, acting, dataBit, masterStep, ticked, masterEnd}
-use Rattle.serial.specs.Slave.{slaveTake, selectedOf, motorolaSelect, captureEdge, driveEdge, motorolaClock, motorolaEdges, motorolaSlave, withMark, tiFalls, tiRises, tiSlave, slaveOn, slaveStep, endedOn, slaveEnd}
+use Rattle.serial.specs.Slave.{slaveTake, selectedOf, motorolaSelect, captureEdge, driveEdge, motorolaClock, motorolaEdges, motorolaSlave, withMark, tiFalls, tiRises, tiSlave, slaveOn, slaveStep, endedOn, wordOver, slaveEnd}
 use Rattle.serial.specs.Cycle.{DeviceModel, resetDevice, stepOf, endOf, deviceStep, cycleOf, activeDevice}
 use Rattle.serial.proofs.Cycles.{step-keeps, control-cycle, step-stopped, cycle-stopped}
 use Rattle.serial.specs.Access.{readDevice, engineAfter, writeDevice}
@@ -287,7 +287,7 @@ module _ (F : Type 0) (s : Settings) where
 
   end-slave : (e : Engine) → EngineFacts F s e → EngineFacts F s (slaveEnd s e)
   unfolding slaveEnd
-  end-slave e t = engine-pick (e .frame && leb (s .bits) (e .shift .captured)) _ _ (λ _. end-on (s .format) e t) (λ _. t)
+  end-slave e t = engine-pick (wordOver s e) _ _ (λ _. end-on (s .format) e t) (λ _. t)
 
 -- The tests as facts -------------------------------------------------------------------------------------------------
 

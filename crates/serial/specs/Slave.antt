@@ -123,6 +123,10 @@ endedOn Ti e = withFrame e false clearShift
 endedOn Microwire e = withFrame e false clearShift
 endedOn Reserved e = withFrame e false clearShift
 
+-- All bits of the word are captured.
+abbrev pub wordOver : Settings → Engine → Bool
+wordOver s e = e .frame && leb (captureWidth s) (e .shift .captured)
+
 -- The end of a slave's cycle.
 unfoldable pub slaveEnd : Settings → Engine → Engine
-slaveEnd s e = pick (e .frame && leb (captureWidth s) (e .shift .captured)) (endedOn (s .format) e) e
+slaveEnd s e = pick (wordOver s e) (endedOn (s .format) e) e
