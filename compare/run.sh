@@ -19,21 +19,7 @@ if [ $# -ne 0 ]; then
     echo "usage: run.sh" >&2
     exit 2
 fi
-if ! command -v cargo > /dev/null; then
-    echo "run: cargo is not in the path" >&2
-    exit 2
-fi
-
-here=$(cd "$(dirname "$0")" && pwd)
-cd "$here/.."
-archive=${PL022_ARCHIVE:-target/staticlib/libpl022.a}
-if [ ! -f "$archive" ]; then
-    echo "run: no archive $archive; rt staticlib pl022 builds it" >&2
-    exit 2
-fi
-PL022_ARCHIVE_DIR=$(cd "$(dirname "$archive")" && pwd)
-CARGO_TARGET_DIR=${CARGO_TARGET_DIR:-$here/target}
-export CARGO_TARGET_DIR PL022_ARCHIVE_DIR
+. "$(dirname "$0")/setup.sh"
 
 cargo test --quiet --offline --locked --release --manifest-path "$here/Cargo.toml"
 

@@ -9,22 +9,7 @@ if [ $# -gt 1 ]; then
     echo "usage: speed.sh [CYCLES]" >&2
     exit 2
 fi
-
-if ! command -v cargo > /dev/null; then
-    echo "speed: cargo is not in the path" >&2
-    exit 2
-fi
-
-here=$(cd "$(dirname "$0")" && pwd)
-cd "$here/.."
-archive=${PL022_ARCHIVE:-target/staticlib/libpl022.a}
-if [ ! -f "$archive" ]; then
-    echo "speed: no archive $archive; rt staticlib pl022 builds it" >&2
-    exit 2
-fi
-PL022_ARCHIVE_DIR=$(cd "$(dirname "$archive")" && pwd)
-CARGO_TARGET_DIR=${CARGO_TARGET_DIR:-$here/target}
-export CARGO_TARGET_DIR PL022_ARCHIVE_DIR
+. "$(dirname "$0")/setup.sh"
 
 cargo build --quiet --offline --locked --profile speed --manifest-path "$here/Cargo.toml" \
     --features library --bin speed
