@@ -14,10 +14,10 @@ use Rattle.registers.specs.Model.{Model}
 use Rattle.registers.specs.declared.fields.Fields.{Fields}
 use Rattle.device_record.specs.Record.{low, high, WordOf, pinByte, registerBytes, engineBytes, levelBytes, countBytes, eqList, PutAt, wordAt, wordsAt, wordBytes, stateBytes, queueBytes}
 use Rattle.device_record.proofs.RoundTrip.{length-state, length-parts}
-use Rattle.serial.specs.Lines.{byteOf}
+use Rattle.frames.specs.Lines.{byteOf}
 use Rattle.serial.specs.declared.History.{History}
-use Rattle.serial.specs.declared.engine.Engine.{Engine}
-use Rattle.serial.specs.declared.lines.Lines.{Lines}
+use Rattle.frames.specs.declared.engine.Engine.{Engine}
+use Rattle.frames.specs.declared.lines.Lines.{Lines}
 
 -- tests joined one by one
 

@@ -19,14 +19,14 @@ use Rattle.device_record.proofs.RoundTrip.{length-sound, decode-encode,
 use Rattle.serial.specs.Pair.{PairModel, pairCycle, pairRun}
 use Rattle.serial.proofs.Exchange.Claim.{demand3}
 use Rattle.serial.proofs.Drawing.Enabled.{enabling-injective}
-use Rattle.serial.specs.Slots.{widthOf}
+use Rattle.frames.specs.Slots.{widthOf}
 use Rattle.registers.specs.declared.settings.Settings.{Settings}
-use Rattle.serial.specs.Lines.{pinsOf, byteOf}
+use Rattle.frames.specs.Lines.{pinsOf, byteOf}
 use Rattle.device_record.specs.Run.{outputs}
 use Rattle.device_record.proofs.Histories.{good-decode, good-pair-run}
 use Rattle.device_record.specs.Calls.{leftBy, recordRefusal, readCall, readLeft, writeCall, writeLeft, pairRefusal, pairAfter, Records}
 use Rattle.device_record.specs.Demand3.{devicesOf, runBytes, playBytes, playsBytes, SoundRecords, steps, ExchangedRecords, Demand3Records, LastSentenceRecords}
-use Rattle.serial.specs.Bits.{cut}
+use Rattle.frames.specs.Bits.{cut}
 use Rattle.serial.specs.Demand3.{Step, play, plays, cyclesIn, Stays, Start, Exchanged, slaveOn, masterOn, enables, Enabling, WholeLoad}
 use Rattle.serial.specs.Demand3.Which.{master, slave}
 use Rattle.serial.specs.Demand3.Step.{read, write}

@@ -9,8 +9,8 @@ use Rattle.registers.specs.Fields.{places, fieldsOf, restored}
 use Rattle.registers.specs.Settings.{formatOf, permittedOf, bitsOf, divisorOf, enabledOf, settingsOf}
 use Rattle.registers.specs.Transfer.{limitOf}
 use Rattle.registers.specs.Sound.{controlSound, masksSound, queuesSound, countSound, soundRegisters}
-use Rattle.serial.specs.Slots.{lastSlot}
-use Rattle.serial.specs.Lines.{pinsOf, byteOf}
+use Rattle.frames.specs.Slots.{lastSlot}
+use Rattle.frames.specs.Lines.{pinsOf, byteOf}
 use Rattle.serial.specs.Sound.{stoppedSound, runningSound, engineSound, soundDevice}
 use Rattle.serial.specs.Cycle.{resetDevice}
 use Rattle.device_record.specs.Record.{pinByte, registerBytes, engineBytes, levelBytes, countBytes, stateBytes, wordBytes, queueBytes, encoded, wordAt, longAt, flagAt, wordsAt, linesFrom, fieldsAt, engineAt, historyAt, decode, eqList, soundBytes}

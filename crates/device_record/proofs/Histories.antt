@@ -6,12 +6,12 @@ use mathlib.Core.List.{List, [], _∷_}
 use native.Mathlib.Omega.{arith}
 use lib.ListN.{length, take}
 use lib.Dec.{eqb}
-use Rattle.serial.specs.declared.lines.Pins.{Pins}
+use Rattle.frames.specs.declared.lines.Pins.{Pins}
 use Rattle.registers.specs.Choose.{pick}
 use Rattle.registers.specs.Refusals.{done, refusalOf}
 use Rattle.serial.specs.Cycle.{DeviceModel, resetDevice, cycleOf}
 use Rattle.serial.specs.Access.{readDevice, writeDevice}
-use Rattle.serial.specs.Lines.{pinsOf}
+use Rattle.frames.specs.Lines.{pinsOf}
 use Rattle.serial.specs.Sound.{soundDevice, deviceFits}
 use Rattle.serial.proofs.Soundness.{sound-reset, sound-read, sound-write, sound-cycle, fits-reset, fits-read, fits-write, fits-cycle}
 use Rattle.device_record.specs.Record.{encoded, decode, soundBytes}

@@ -16,13 +16,13 @@ use Rattle.registers.specs.Model.{Model}
 use Rattle.registers.specs.Sound.{soundRegisters, wordsFit, registersFit}
 use Rattle.registers.specs.declared.fields.Fields.{Fields}
 use Rattle.serial.specs.Cycle.{DeviceModel, activeDevice}
-use Rattle.serial.specs.Lines.{pinsOf, byteOf}
+use Rattle.frames.specs.Lines.{pinsOf, byteOf}
 use Rattle.serial.specs.Sound.{soundDevice, deviceFits}
 use Rattle.device_record.specs.Record.{recordLength, pinByte, registerBytes, engineBytes, levelBytes, countBytes, stateBytes, wordBytes, queueBytes, encoded, wordAt, longAt, flagAt, wordsAt, linesFrom, fieldsAt, engineAt, historyAt, decode, eqList, soundBytes}
 use Rattle.serial.specs.declared.History.{History}
-use Rattle.serial.specs.declared.engine.Engine.{Engine}
-use Rattle.serial.specs.declared.lines.Lines.{Lines}
-use Rattle.serial.specs.declared.lines.Pins.{Pins}
+use Rattle.frames.specs.declared.engine.Engine.{Engine}
+use Rattle.frames.specs.declared.lines.Lines.{Lines}
+use Rattle.frames.specs.declared.lines.Pins.{Pins}
 
 -- equality of lists
 

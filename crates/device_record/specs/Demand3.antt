@@ -6,9 +6,9 @@ use mathlib.Core.List.{List, [], _∷_, _++_, map}
 use Rattle.registers.specs.Offsets.{registerOf}
 use Rattle.registers.specs.declared.offsets.Register.the-variants.{Dr}
 use Rattle.registers.specs.declared.settings.Settings.{Settings}
-use Rattle.serial.specs.Bits.{cut}
-use Rattle.serial.specs.Lines.{pinsOf}
-use Rattle.serial.specs.Slots.{widthOf}
+use Rattle.frames.specs.Bits.{cut}
+use Rattle.frames.specs.Lines.{pinsOf}
+use Rattle.frames.specs.Slots.{widthOf}
 use Rattle.serial.specs.Pair.{PairModel, pairRun, swapped}
 use Rattle.serial.specs.Demand3.{Step, plays, cyclesIn, Stays, Start, Exchanged, slaveOn, enables, Enabling, WholeLoad}
 use Rattle.serial.specs.Demand3.Which.{master, slave}

@@ -11,13 +11,13 @@ use Rattle.registers.specs.Choose.{pick, bitAt}
 use Rattle.registers.specs.Time.{cycles, slots}
 use Rattle.registers.specs.Fields.{fieldsOf, restored}
 use Rattle.registers.specs.declared.fields.Fields.{Fields}
-use Rattle.serial.specs.Lines.{pinsOf, byteOf}
+use Rattle.frames.specs.Lines.{pinsOf, byteOf}
 use Rattle.serial.specs.Cycle.{DeviceModel}
 use Rattle.serial.specs.Sound.{soundDevice}
 use Rattle.serial.specs.declared.History.{History}
-use Rattle.serial.specs.declared.engine.Engine.{Engine}
-use Rattle.serial.specs.declared.lines.Lines.{Lines}
-use Rattle.serial.specs.declared.lines.Pins.{Pins}
+use Rattle.frames.specs.declared.engine.Engine.{Engine}
+use Rattle.frames.specs.declared.lines.Lines.{Lines}
+use Rattle.frames.specs.declared.lines.Pins.{Pins}
 
 -- A record has so many bytes.
 abbrev pub recordLength : ℕ

@@ -7,7 +7,7 @@ use lib.ListN.{length, take, drop}
 use lib.Dec.{leb, eqb}
 use Rattle.registers.specs.Choose.{pick}
 use Rattle.registers.specs.Refusals.{done}
-use Rattle.serial.specs.Lines.{pinsOf, byteOf}
+use Rattle.frames.specs.Lines.{pinsOf, byteOf}
 use Rattle.serial.specs.Cycle.{DeviceModel, deviceOf, cycleOf, after, recording}
 use Rattle.serial.specs.Busy.{busyDevice}
 use Rattle.device_record.specs.Record.{recordLength, soundBytes}

@@ -4,6 +4,10 @@ ghost use Prim.Native.Nat.{_+_, _*_, _≤_, _<_};
 ghost use lib.ListN.{length, getD};
 ghost use Rattle.serial.specs.Cycle.{deviceOf};
 ghost use Rattle.device_record.specs.Record.{recordLength, byteAt, WordOf, wordAt, longAt, flagAt, wordsAt, linesFrom, fieldsAt, engineAt, historyAt, decode, pinByte, stateBytes, wordBytes, PutAt, encode, eqList, soundBytes};
+use frames::engine::Engine;
+use frames::engine::Shift;
+use frames::lines::Lines;
+use frames::lines::Pins;
 use registers::Control;
 use registers::Masks;
 use registers::Timeout;
@@ -12,10 +16,6 @@ use registers::time::Cycles;
 use registers::time::Slots;
 use serial::Device;
 use serial::History;
-use serial::engine::Engine;
-use serial::engine::Shift;
-use serial::lines::Lines;
-use serial::lines::Pins;
 
 // A record has so many bytes.
 pub const RECORD_LENGTH: usize = 128;
@@ -133,9 +133,9 @@ fn history_at(bytes: &[u8]) -> History
     ensures { λ h. ⌜ h ≡ historyAt (now (bytes .entry)) ⌝ }
 {
     History {
-        newest: serial::lines::pins_of(byte_at(bytes, 24)),
-        middle: serial::lines::pins_of(byte_at(bytes, 25)),
-        oldest: serial::lines::pins_of(byte_at(bytes, 26)),
+        newest: frames::lines::pins_of(byte_at(bytes, 24)),
+        middle: frames::lines::pins_of(byte_at(bytes, 25)),
+        oldest: frames::lines::pins_of(byte_at(bytes, 26)),
     }
 }
 
@@ -160,9 +160,9 @@ pub fn decode(bytes: &[u8]) -> Device
 fn pin_byte(p: Pins) -> u8
     ensures { λ r. ⌜ r ≡ pinByte p ⌝ }
 {
-    serial::lines::value_of(p.clk, 1)
-        + serial::lines::value_of(p.fss, 2)
-        + serial::lines::value_of(p.rxd, 4)
+    frames::lines::value_of(p.clk, 1)
+        + frames::lines::value_of(p.fss, 2)
+        + frames::lines::value_of(p.rxd, 4)
 }
 
 // Bytes 0 to 31, as words.
@@ -184,7 +184,7 @@ fn state_words(f: Fields, d: Device) -> [u16; 16]
         d.engine.shift.sending,
         d.engine.shift.receiving,
         word_of(pin_byte(d.pins.newest), pin_byte(d.pins.middle)),
-        word_of(pin_byte(d.pins.oldest), serial::lines::byte_of(d.lines)),
+        word_of(pin_byte(d.pins.oldest), frames::lines::byte_of(d.lines)),
         word_of(f.waiting, f.held),
         0,
     ]

@@ -77,9 +77,9 @@ pub fn run_until(stop: Stop, d: Device, input: &[u8], output: &mut [u8]) -> Ran
         if done {
             return Ran { count: i, device };
         }
-        let pins = serial::lines::pins_of(input[i]);
+        let pins = frames::lines::pins_of(input[i]);
         device = serial::cycle::cycle_of(device, pins);
-        output[i] = serial::lines::byte_of(device.lines);
+        output[i] = frames::lines::byte_of(device.lines);
         i += 1;
     }
     Ran { count: i, device }

@@ -37,7 +37,7 @@ fn put_digit(digit: u8) {
 // The lines of the device's last cycle.
 fn put_lines(d: Device) {
     let lines = d.lines;
-    put_digit(serial::lines::byte_of(lines));
+    put_digit(frames::lines::byte_of(lines));
 }
 
 fn put_word(w: u16) {
@@ -71,7 +71,7 @@ fn set_up(cr0: u32, cpsr: u32, words: &[u32], cr1: u32) -> Device {
 
 // A cycle, with its lines printed.
 fn shown(d: Device, input: u8) -> Device {
-    let next = serial::cycle::cycle_of(d, serial::lines::pins_of(input));
+    let next = serial::cycle::cycle_of(d, frames::lines::pins_of(input));
     put_lines(next);
     next
 }

@@ -3,14 +3,22 @@
 ghost use mathlib.Core.Path.{_≡_};
 ghost use Rattle.registers.specs.Model.{modelOf, resetRegisters};
 
-pub mod access;
-pub mod fields;
-pub mod flags;
-pub mod offsets;
-pub mod settings;
-pub mod sound;
+// Cycles, slots and h.
 pub mod time;
+// The register that an offset names.
+pub mod offsets;
+// What the control registers set.
+pub mod settings;
+// SR and the interrupts.
+pub mod flags;
+// A read, a write.
+pub mod access;
+// Words from and to the engine; the receive timeout.
 pub mod transfer;
+// Which register files are sound.
+pub mod sound;
+// A register file as plain fields.
+pub mod fields;
 
 use crate::time::Cycles;
 use queue::Queue;

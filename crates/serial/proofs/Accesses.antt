@@ -16,9 +16,9 @@ use Rattle.registers.specs.declared.offsets.Register.{Register}
 use Rattle.registers.specs.declared.offsets.Register.the-variants.{Cr0, Cr1, Dr, Sr, Cpsr, Imsc, Ris, Mis, Icr, Dmacr, Identity, Reserved, Outside}
 use Rattle.serial.specs.Cycle.{DeviceModel, activeDevice, withRegisters, withEngine}
 use Rattle.registers.proofs.Picks.{pick-no, pick-both}
-use Rattle.serial.specs.Engine.{cleared}
+use Rattle.frames.specs.Engine.{cleared}
 use Rattle.serial.specs.Access.{readAnswerOf, readDevice, writeRefusalOf, engineAfter, writeDevice}
-use Rattle.serial.specs.declared.engine.Engine.{Engine}
+use Rattle.frames.specs.declared.engine.Engine.{Engine}
 
 pick-most : (t : Bool) (a b : ℕ) → a ≤ 8 → b ≤ 8 → pick t a b ≤ 8
 pick-most true a b p q = p

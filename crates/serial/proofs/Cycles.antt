@@ -11,13 +11,13 @@ use Rattle.registers.specs.Model.{Model}
 use Rattle.registers.specs.Settings.{enabledOf, settingsOf}
 use Rattle.registers.specs.Transfer.{rest, takeWord, receiveWord, endCycle}
 use Rattle.registers.specs.declared.settings.Settings.{Settings}
-use Rattle.serial.specs.Engine.{cleared, noWord}
-use Rattle.serial.specs.Master.{resting, masterEnd}
+use Rattle.frames.specs.Engine.{cleared, noWord}
+use Rattle.frames.specs.Master.{resting, masterEnd}
 use Rattle.serial.specs.Slave.{slaveEnd}
 use Rattle.serial.specs.Cycle.{DeviceModel, stepOf, endOf, takeIf, receiveIf, stepModel, deviceStep, cycleOf}
-use Rattle.serial.specs.declared.engine.Engine.{Engine}
-use Rattle.serial.specs.declared.engine.Step.{Step}
-use Rattle.serial.specs.declared.lines.Pins.{Pins}
+use Rattle.frames.specs.declared.engine.Engine.{Engine}
+use Rattle.frames.specs.declared.engine.Step.{Step}
+use Rattle.frames.specs.declared.lines.Pins.{Pins}
 
 -- what sending and receiving a word keep, a step keeps
 pub step-keeps : (P : Model → Type 0) (m : Model) (r : Step) → ((x : Model) → P x → P (takeWord x)) → ((x : Model) → P x → P (receiveWord x (r .word))) → P m → P (stepModel m r)

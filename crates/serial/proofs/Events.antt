@@ -7,9 +7,9 @@ use lib.Dec.{eqb}
 use borrow.Author.Tests.{eq-eqb, ne-eqb, lt-ltb, le-ltb, le-leb, lt-leb}
 use Rattle.registers.specs.Time.{slots}
 use Rattle.registers.specs.Choose.{pick}
-use Rattle.serial.specs.Slots.{motorolaEvent, tiEvent, motorolaLevels, tiLevels}
-use Rattle.serial.specs.declared.slots.Event.the-variants.{Drive, Capture, Chain, JoinDrive, Release, Pause}
-use Rattle.serial.specs.declared.slots.Levels.{Levels}
+use Rattle.frames.specs.Slots.{motorolaEvent, tiEvent, motorolaLevels, tiLevels}
+use Rattle.frames.specs.declared.slots.Event.the-variants.{Drive, Capture, Chain, JoinDrive, Release, Pause}
+use Rattle.frames.specs.declared.slots.Levels.{Levels}
 
 -- Motorola -------------------------------------------------------------------------------------------------------------
 

@@ -4,12 +4,12 @@ use Rattle.registers.specs.Choose.{pick}
 use Rattle.registers.specs.Settings.{settingsOf}
 use Rattle.registers.specs.Transfer.{rest}
 use Rattle.registers.specs.declared.Control.{Control}
-use Rattle.serial.specs.Lines.{masterLines}
-use Rattle.serial.specs.Master.{masterEnd}
+use Rattle.frames.specs.Lines.{masterLines}
+use Rattle.frames.specs.Master.{masterEnd}
 use Rattle.serial.specs.Cycle.{DeviceModel, cycleOf}
 use Rattle.serial.proofs.Cycles.{control-cycle, masks-cycle}
 use Rattle.serial.proofs.Unreceived.{withoutReceived, Masters, sendStep, sendOf, lines-sends, engine-sends, tx-sends}
-use Rattle.serial.specs.declared.lines.Pins.{Pins}
+use Rattle.frames.specs.declared.lines.Pins.{Pins}
 
 -- Two devices alike in all that a master's lines depend on.
 pub record Alike (d d′ : DeviceModel) : Type 0 where

@@ -1,4 +1,3 @@
-mod Words
 mod Wiring
 pub mod Swap
 pub mod Accesses

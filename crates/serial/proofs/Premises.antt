@@ -11,7 +11,7 @@ use Rattle.registers.specs.Access.{readModel, cr0Rule, cr1Rule, cpsrRule, drRul
 use Rattle.registers.specs.Transfer.{added, endCycle}
 use Rattle.registers.specs.Sound.{controlSound, masksSound, queuesSound, countSound, soundRegisters}
 use Rattle.serial.specs.Slave.{motorolaSelect, captureEdge, driveEdge, motorolaClock, motorolaEdges, motorolaSlave, slaveStep}
-use Rattle.serial.specs.Lines.{masterLines, linesOf, masterTxd}
+use Rattle.frames.specs.Lines.{masterLines, linesOf, masterTxd}
 use Rattle.serial.specs.Cycle.{stepOf, endOf, takeIf, receiveIf, deviceStep, cycleOf}
 use Rattle.serial.specs.Access.{readDevice, engineAfter, writeDevice}
 use Rattle.serial.specs.Sound.{stoppedSound, engineSound, soundDevice}

@@ -7,11 +7,11 @@ use Rattle.registers.specs.Settings.{formatOf, permittedOf, bitsOf, divisorOf, 
 use Rattle.registers.specs.Flags.{busyOf, statusOf, rawOf, interruptWord}
 use Rattle.registers.specs.Access.{dataTaken, readAnswer, readModel, cr0Rule, cr1Rule, cpsrRule, drRule, writeRefusal, cr0Written, cr1Written, cpsrWritten, drWritten, dmacrWritten, writeModel}
 use Rattle.registers.specs.Transfer.{added, waitingOf, nextWord, takeWord, receiveWord, idlesOf, limitOf, timeoutOf, endCycle}
-use Rattle.serial.specs.Bits.{bitOf, shiftedIn}
-use Rattle.serial.specs.Engine.{started, driven, capturedOf, completes, captureStep}
-use Rattle.serial.specs.Slots.{motorolaEvent, tiEvent, microwireEvent, eventOf, lastSlot, widthOf, motorolaLevels, tiLevels, microwireLevels, levelsOf}
-use Rattle.serial.specs.Lines.{pinsOf, byteOf, frameLines, masterLines, linesOf, masterTxd}
-use Rattle.serial.specs.Master.{joinedShift, resting, acting, dataBit, masterStep, ticked, masterEnd}
+use Rattle.frames.specs.Bits.{bitOf, shiftedIn}
+use Rattle.frames.specs.Engine.{started, driven, capturedOf, completes, captureStep}
+use Rattle.frames.specs.Slots.{motorolaEvent, tiEvent, microwireEvent, eventOf, lastSlot, widthOf, motorolaLevels, tiLevels, microwireLevels, levelsOf}
+use Rattle.frames.specs.Lines.{pinsOf, byteOf, frameLines, masterLines, linesOf, masterTxd}
+use Rattle.frames.specs.Master.{joinedShift, resting, acting, dataBit, masterStep, ticked, masterEnd}
 use Rattle.serial.specs.Cycle.{stepOf, endOf, takeIf, receiveIf, deviceStep, cycleOf}
 use Rattle.serial.specs.Access.{readAnswerOf, readDevice, writeRefusalOf, engineAfter, writeDevice}
 use Rattle.serial.specs.Recordings.{AllHold, table, setUp, words, held, digits, afterStep, given, expected, givenAll, expectedAll}

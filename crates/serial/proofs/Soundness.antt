@@ -22,22 +22,22 @@ use Rattle.registers.specs.declared.Control.{Control}
 use Rattle.registers.specs.declared.settings.Format.{Format}
 use Rattle.registers.specs.declared.settings.Format.the-variants.{Motorola, Ti, Microwire, Reserved}
 use Rattle.registers.specs.declared.settings.Settings.{Settings}
-use Rattle.serial.specs.Bits.{shiftedIn}
-use Rattle.serial.specs.Engine.{clearShift, cleared, withShift, loaded, started, driven, quieted, capturedOf, completes, noWord, captureStep}
-use Rattle.serial.specs.Slots.{motorolaEvent, tiEvent, microwireEvent, eventOn, eventOf, lastOn, lastSlot, widthOf}
-use Rattle.serial.specs.Lines.{masterTxd}
-use Rattle.serial.specs.Master.{joinedShift, act, resting, acting, dataBit, masterStep, ticked, masterEnd}
+use Rattle.frames.specs.Bits.{shiftedIn}
+use Rattle.frames.specs.Engine.{clearShift, cleared, withShift, loaded, started, driven, quieted, capturedOf, completes, noWord, captureStep}
+use Rattle.frames.specs.Slots.{motorolaEvent, tiEvent, microwireEvent, eventOn, eventOf, lastOn, lastSlot, widthOf}
+use Rattle.frames.specs.Lines.{masterTxd}
+use Rattle.frames.specs.Master.{joinedShift, act, resting, acting, dataBit, masterStep, ticked, masterEnd}
 use Rattle.serial.specs.Slave.{slaveTake, selectedOf, motorolaSelect, captureEdge, driveEdge, motorolaClock, motorolaEdges, motorolaSlave, withMark, tiFalls, tiRises, tiSlave, slaveOn, slaveStep, endedOn, wordOver, slaveEnd}
 use Rattle.serial.specs.Cycle.{DeviceModel, resetDevice, stepOf, endOf, deviceStep, cycleOf, activeDevice}
 use Rattle.serial.proofs.Cycles.{step-keeps, control-cycle, step-stopped, cycle-stopped}
 use Rattle.serial.specs.Access.{readDevice, engineAfter, writeDevice}
 use Rattle.serial.specs.Sound.{stoppedSound, runningSound, engineSound, soundDevice, deviceFits}
-use Rattle.serial.specs.declared.engine.Shift.{Shift}
-use Rattle.serial.specs.declared.engine.Engine.{Engine}
-use Rattle.serial.specs.declared.engine.Step.{Step}
-use Rattle.serial.specs.declared.lines.Pins.{Pins}
-use Rattle.serial.specs.declared.slots.Event.{Event}
-use Rattle.serial.specs.declared.slots.Event.the-variants.{Begin, BeginDrive, Drive, First, Capture, Chain, JoinDrive, JoinCapture, Quiet, Release, Pause}
+use Rattle.frames.specs.declared.engine.Shift.{Shift}
+use Rattle.frames.specs.declared.engine.Engine.{Engine}
+use Rattle.frames.specs.declared.engine.Step.{Step}
+use Rattle.frames.specs.declared.lines.Pins.{Pins}
+use Rattle.frames.specs.declared.slots.Event.{Event}
+use Rattle.frames.specs.declared.slots.Event.the-variants.{Begin, BeginDrive, Drive, First, Capture, Chain, JoinDrive, JoinCapture, Quiet, Release, Pause}
 
 -- A running engine's facts. F is what the words' sizes hang on: one walk shows both soundness and what the bytes can hold.
 

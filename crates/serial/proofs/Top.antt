@@ -6,7 +6,7 @@ use native.Mathlib.Omega.{arith}
 use lib.Dec.{eqb}
 use lib.Pow.{mod-pow-add, shr-shr, pow-mono, pow-pos}
 use Rattle.registers.specs.Choose.{pick}
-use Rattle.serial.specs.Bits.{bitOf, cut, shiftedIn}
+use Rattle.frames.specs.Bits.{bitOf, cut, shiftedIn}
 
 -- the top c of the b bits of w
 unfoldable pub top : ℕ → ℕ → ℕ → ℕ

@@ -12,19 +12,19 @@ use Rattle.registers.specs.Transfer.{waitingOf, nextWord}
 use Rattle.registers.specs.declared.Control.{Control}
 use Rattle.registers.specs.declared.settings.Settings.{Settings}
 use Rattle.registers.specs.declared.time.Cycles.{Cycles}
-use Rattle.serial.specs.Engine.{cleared, noWord, captureStep, withElapsed, withNextSlot, withFrame, withSlot}
-use Rattle.serial.specs.Slots.{eventOf, lastSlot}
-use Rattle.serial.specs.Lines.{masterLines, linesOf, masterTxd}
-use Rattle.serial.specs.Master.{act, resting, acting, dataBit, masterStep, ticked, masterEnd}
+use Rattle.frames.specs.Engine.{cleared, noWord, captureStep, withElapsed, withNextSlot, withFrame, withSlot}
+use Rattle.frames.specs.Slots.{eventOf, lastSlot}
+use Rattle.frames.specs.Lines.{masterLines, linesOf, masterTxd}
+use Rattle.frames.specs.Master.{act, resting, acting, dataBit, masterStep, ticked, masterEnd}
 use Rattle.serial.specs.Cycle.{DeviceModel, stepOf, endOf, deviceStep, cycleOf}
 use Rattle.serial.proofs.Cycles.{control-cycle, cycle-stopped}
 use Rattle.serial.proofs.Unreceived.{Masters, masters-cycle}
-use Rattle.serial.specs.declared.engine.Shift.{Shift}
-use Rattle.serial.specs.declared.engine.Engine.{Engine}
-use Rattle.serial.specs.declared.engine.Step.{Step}
-use Rattle.serial.specs.declared.lines.Pins.{Pins}
-use Rattle.serial.specs.declared.slots.Event.{Event}
-use Rattle.serial.specs.declared.slots.Event.the-variants.{Begin, BeginDrive, Drive, First, Capture, Chain, JoinDrive, JoinCapture, Quiet, Release, Pause}
+use Rattle.frames.specs.declared.engine.Shift.{Shift}
+use Rattle.frames.specs.declared.engine.Engine.{Engine}
+use Rattle.frames.specs.declared.engine.Step.{Step}
+use Rattle.frames.specs.declared.lines.Pins.{Pins}
+use Rattle.frames.specs.declared.slots.Event.{Event}
+use Rattle.frames.specs.declared.slots.Event.the-variants.{Begin, BeginDrive, Drive, First, Capture, Chain, JoinDrive, JoinCapture, Quiet, Release, Pause}
 
 -- The event ------------------------------------------------------------------------------------------------------------
 

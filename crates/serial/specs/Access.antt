@@ -8,9 +8,9 @@ use Rattle.registers.specs.Settings.{enabledOf}
 use Rattle.registers.specs.Access.{readAnswer, readModel, writeRefusal, writeModel}
 use Rattle.registers.specs.Model.{Model}
 use Rattle.registers.specs.declared.access.Answer.{Answer}
-use Rattle.serial.specs.Engine.{cleared}
+use Rattle.frames.specs.Engine.{cleared}
 use Rattle.serial.specs.Cycle.{DeviceModel, deviceOf, activeDevice, withRegisters, withEngine}
-use Rattle.serial.specs.declared.engine.Engine.{Engine}
+use Rattle.frames.specs.declared.engine.Engine.{Engine}
 use Rattle.serial.specs.declared.access.Reading.{Reading}
 use Rattle.serial.specs.declared.access.Written.{Written}
 

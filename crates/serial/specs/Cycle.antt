@@ -8,16 +8,16 @@ use Rattle.registers.specs.Model.{Model, modelOf, resetRegisters}
 use Rattle.registers.specs.Settings.{settingsOf}
 use Rattle.registers.specs.Transfer.{waitingOf, nextWord, takeWord, receiveWord, endCycle}
 use Rattle.registers.specs.declared.settings.Settings.{Settings}
-use Rattle.serial.specs.Engine.{activeOf, cleared, noWord}
-use Rattle.serial.specs.Lines.{linesOf}
-use Rattle.serial.specs.Master.{masterStep, masterEnd}
+use Rattle.frames.specs.Engine.{activeOf, cleared, noWord}
+use Rattle.frames.specs.Lines.{linesOf}
+use Rattle.frames.specs.Master.{masterStep, masterEnd}
 use Rattle.serial.specs.Slave.{slaveStep, slaveEnd}
 use Rattle.serial.specs.declared.Device.{Device}
 use Rattle.serial.specs.declared.History.{History}
-use Rattle.serial.specs.declared.engine.Engine.{Engine}
-use Rattle.serial.specs.declared.engine.Step.{Step}
-use Rattle.serial.specs.declared.lines.Lines.{Lines}
-use Rattle.serial.specs.declared.lines.Pins.{Pins}
+use Rattle.frames.specs.declared.engine.Engine.{Engine}
+use Rattle.frames.specs.declared.engine.Step.{Step}
+use Rattle.frames.specs.declared.lines.Lines.{Lines}
+use Rattle.frames.specs.declared.lines.Pins.{Pins}
 
 -- A device as the definitions see it.
 pub record DeviceModel : Type 0 where

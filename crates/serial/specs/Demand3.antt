@@ -19,10 +19,10 @@ use Rattle.serial.specs.Access.{readDevice, writeDevice}
 use Rattle.serial.specs.Busy.{busyDevice}
 use Rattle.serial.specs.Sound.{soundDevice}
 use Rattle.serial.specs.Drawing.{slotTotal}
-use Rattle.serial.specs.Bits.{cut}
-use Rattle.serial.specs.Lines.{byteOf}
-use Rattle.serial.specs.Slots.{widthOf, captureWidth}
-use Rattle.serial.specs.declared.lines.Pins.{Pins}
+use Rattle.frames.specs.Bits.{cut}
+use Rattle.frames.specs.Lines.{byteOf}
+use Rattle.frames.specs.Slots.{widthOf, captureWidth}
+use Rattle.frames.specs.declared.lines.Pins.{Pins}
 use Rattle.serial.specs.Pair.{wire, PairModel, pairCycle, pairRun}
 
 -- Steps ----------------------------------------------------------------------------------------------------------------

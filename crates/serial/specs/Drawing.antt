@@ -9,11 +9,11 @@ use Rattle.registers.specs.declared.time.Slots.{Slots}
 use Rattle.registers.specs.declared.settings.Format.{Format}
 use Rattle.registers.specs.declared.settings.Format.the-variants.{Motorola, Ti, Microwire, Reserved}
 use Rattle.registers.specs.declared.settings.Settings.{Settings}
-use Rattle.serial.specs.Bits.{bitOf}
-use Rattle.serial.specs.Lines.{idleOn, clockOn}
+use Rattle.frames.specs.Bits.{bitOf}
+use Rattle.frames.specs.Lines.{idleOn, clockOn}
 use Rattle.serial.specs.Cycle.{DeviceModel, cycleOf}
-use Rattle.serial.specs.declared.lines.Lines.{Lines}
-use Rattle.serial.specs.declared.lines.Pins.{Pins}
+use Rattle.frames.specs.declared.lines.Lines.{Lines}
+use Rattle.frames.specs.declared.lines.Pins.{Pins}
 
 -- Slots for n preloaded words, idle ones included: n(2b+4) for Motorola SPH 0, 2bn+4 for SPH 1, 2bn+2 for TI, n(2b+18)+3 for Microwire.
 abbrev pub totalOn : Format → Bool → ℕ → ℕ → ℕ

@@ -3,8 +3,8 @@ use Prim.Native.Nat.{ℕ, zero, suc}
 use mathlib.Core.Bool.{Bool, not, _&&_}
 use Rattle.serial.specs.Cycle.{DeviceModel, deviceOf, cycleOf}
 use Rattle.serial.specs.declared.pair.Wired.{Wired}
-use Rattle.serial.specs.declared.lines.Lines.{Lines}
-use Rattle.serial.specs.declared.lines.Pins.{Pins}
+use Rattle.frames.specs.declared.lines.Lines.{Lines}
+use Rattle.frames.specs.declared.lines.Pins.{Pins}
 
 -- What the partner's pins read: CLK and FSS as driven, TXD where it is driven; a released line reads LOW.
 unfoldable pub wire : Lines → Pins

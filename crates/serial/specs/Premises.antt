@@ -13,7 +13,7 @@ use Rattle.serial.specs.Pair.{PairModel}
 use Rattle.serial.specs.Demand3.{Step, cyclesIn, Stays, Start, load, slaveOn, masterOn, Enabling, WholeLoad}
 use Rattle.serial.specs.Demand3.Which.{master, slave}
 use Rattle.serial.specs.Demand3.Step.{cycle, read}
-use Rattle.serial.specs.declared.lines.Pins.{Pins}
+use Rattle.frames.specs.declared.lines.Pins.{Pins}
 use Rattle.serial.specs.Recordings.{CR0, CR1, DR, SR, CPSR}
 
 -- After reset, CR0 for Motorola SPH 0 and b = 4, CPSR and CR1 are written, then two words to send.

@@ -7,8 +7,8 @@ use lib.ListN.{replicate}
 use Rattle.registers.specs.Refusals.{done}
 use Rattle.registers.specs.declared.access.Answer.{Answer}
 use Rattle.registers.specs.declared.access.Answer.the-variants.{Word, Refused}
-use Rattle.serial.specs.Lines.{pinsOf, byteOf}
-use Rattle.serial.specs.declared.lines.Pins.{Pins}
+use Rattle.frames.specs.Lines.{pinsOf, byteOf}
+use Rattle.frames.specs.declared.lines.Pins.{Pins}
 use Rattle.serial.specs.Cycle.{DeviceModel, resetDevice, after, recording}
 use Rattle.serial.specs.Access.{readAnswerOf, readDevice, writeRefusalOf, writeDevice}
 

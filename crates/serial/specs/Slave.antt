@@ -6,13 +6,13 @@ use Rattle.registers.specs.Choose.{pick}
 use Rattle.registers.specs.declared.settings.Format.{Format}
 use Rattle.registers.specs.declared.settings.Format.the-variants.{Motorola, Ti, Microwire, Reserved}
 use Rattle.registers.specs.declared.settings.Settings.{Settings}
-use Rattle.serial.specs.Engine.{clearShift, cleared, withShift, withFrame, started, driven, noWord, captureStep, withSelected}
-use Rattle.serial.specs.Slots.{captureWidth}
-use Rattle.serial.specs.Lines.{differ}
-use Rattle.serial.specs.Master.{dataBit}
-use Rattle.serial.specs.declared.engine.Engine.{Engine}
-use Rattle.serial.specs.declared.engine.Step.{Step}
-use Rattle.serial.specs.declared.lines.Pins.{Pins}
+use Rattle.frames.specs.Engine.{clearShift, cleared, withShift, withFrame, started, driven, noWord, captureStep, withSelected}
+use Rattle.frames.specs.Slots.{captureWidth}
+use Rattle.frames.specs.Lines.{differ}
+use Rattle.frames.specs.Master.{dataBit}
+use Rattle.frames.specs.declared.engine.Engine.{Engine}
+use Rattle.frames.specs.declared.engine.Step.{Step}
+use Rattle.frames.specs.declared.lines.Pins.{Pins}
 
 -- The word that a slave sends: the next one if it may take it, else zeros.
 abbrev pub offered : Bool → ℕ → ℕ

@@ -6,10 +6,10 @@ use Rattle.registers.specs.Choose.{pick}
 use Rattle.registers.specs.Settings.{settingsOf}
 use Rattle.registers.specs.Sound.{soundRegisters, registersFit}
 use Rattle.registers.specs.declared.settings.Settings.{Settings}
-use Rattle.serial.specs.Engine.{activeOf}
-use Rattle.serial.specs.Slots.{lastSlot, captureWidth}
+use Rattle.frames.specs.Engine.{activeOf}
+use Rattle.frames.specs.Slots.{lastSlot, captureWidth}
 use Rattle.serial.specs.Cycle.{DeviceModel, activeDevice}
-use Rattle.serial.specs.declared.engine.Engine.{Engine}
+use Rattle.frames.specs.declared.engine.Engine.{Engine}
 
 -- Where the engine is not active: no frame, no selection, no TI mark; slot, cycle and bit counts 0.
 unfoldable pub stoppedSound : Engine → Bool

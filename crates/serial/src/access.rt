@@ -33,7 +33,7 @@ pub fn write(d: Device, offset: u32, value: u32) -> Written
 {
     let was = registers::settings::enabled(d.registers);
     let s = registers::settings::settings_of(d.registers);
-    let active = crate::engine::active_of(s, d.engine);
+    let active = frames::engine::active_of(s, d.engine);
     let out = registers::access::write(d.registers, active, offset, value);
     let registers = out.registers;
     let is = registers::settings::enabled(registers);
@@ -41,7 +41,7 @@ pub fn write(d: Device, offset: u32, value: u32) -> Written
     let mut device = d;
     device.registers = registers;
     if stops {
-        device.engine = crate::engine::cleared();
+        device.engine = frames::engine::cleared();
     }
     Written {
         refusal: out.refusal,

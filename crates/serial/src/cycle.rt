@@ -4,16 +4,16 @@ ghost use Rattle.registers.specs.Model.{modelOf};
 ghost use Rattle.serial.specs.Cycle.{deviceOf, stepOf, endOf, takeIf, receiveIf, cycleOf};
 use crate::Device;
 use crate::History;
-use crate::engine::Engine;
-use crate::engine::Step;
-use crate::lines::Pins;
+use frames::engine::Engine;
+use frames::engine::Step;
+use frames::lines::Pins;
 use registers::Registers;
 use registers::settings::Settings;
 
 fn step_of(s: Settings, e: Engine, h: History, pins: Pins, waiting: bool, next: u16) -> Step
     ensures { λ r. ⌜ r ≡ stepOf s e h pins waiting next ⌝ }
 {
-    let active = crate::engine::active_of(s, e);
+    let active = frames::engine::active_of(s, e);
     let slave = s.slave;
     if active {
         if slave {
@@ -21,9 +21,9 @@ fn step_of(s: Settings, e: Engine, h: History, pins: Pins, waiting: bool, next: 
             let seen = h.middle;
             return crate::slave::slave_step(s, e, before, seen, next);
         }
-        return crate::master::master_step(s, e, waiting, next, pins.rxd);
+        return frames::master::master_step(s, e, waiting, next, pins.rxd);
     }
-    crate::engine::no_word(crate::engine::cleared())
+    frames::engine::no_word(frames::engine::cleared())
 }
 
 fn end_of(s: Settings, e: Engine) -> Engine
@@ -33,7 +33,7 @@ fn end_of(s: Settings, e: Engine) -> Engine
     if slave {
         crate::slave::slave_end(s, e)
     } else {
-        crate::master::master_end(s, e)
+        frames::master::master_end(s, e)
     }
 }
 
@@ -69,7 +69,7 @@ pub fn cycle_of(d: Device, pins: Pins) -> Device
     let next = registers::transfer::next_word(r);
     let step = step_of(s, e, h, pins, waiting, next);
     let shown = step.engine;
-    let lines = crate::lines::lines_of(s, shown);
+    let lines = frames::lines::lines_of(s, shown);
     let after = end_of(s, shown);
     let without = take_if(r, step.takes);
     let with = receive_if(without, step.complete, step.word);

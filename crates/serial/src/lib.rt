@@ -3,20 +3,20 @@
 ghost use mathlib.Core.Path.{_≡_};
 ghost use Rattle.serial.specs.Cycle.{deviceOf, resetDevice};
 
-pub mod access;
-pub mod bits;
-pub mod cycle;
-pub mod engine;
-pub mod lines;
-pub mod master;
-pub mod pair;
+// A slave at the edges of its pins.
 pub mod slave;
-pub mod slots;
+// One cycle of a device.
+pub mod cycle;
+// A read, a write.
+pub mod access;
+// Which devices are sound.
 pub mod sound;
+// Two wired devices.
+pub mod pair;
 
-use crate::engine::Engine;
-use crate::lines::Lines;
-use crate::lines::Pins;
+use frames::engine::Engine;
+use frames::lines::Lines;
+use frames::lines::Pins;
 use registers::Registers;
 
 // The pins of the last three cycles.
@@ -46,7 +46,7 @@ pub fn reset_device() -> Device
     };
     Device {
         registers: registers::reset_registers(),
-        engine: crate::engine::cleared(),
+        engine: frames::engine::cleared(),
         pins: History {
             newest: low,
             middle: low,

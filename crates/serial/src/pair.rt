@@ -3,8 +3,8 @@ ghost use mathlib.Core.Path.{_≡_};
 ghost use Rattle.serial.specs.Cycle.{deviceOf};
 ghost use Rattle.serial.specs.Pair.{wire, pairOf, pairCycle, pairRun};
 use crate::Device;
-use crate::lines::Lines;
-use crate::lines::Pins;
+use frames::lines::Lines;
+use frames::lines::Pins;
 
 pub struct Wired {
     pub first: Device,

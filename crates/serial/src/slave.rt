@@ -1,9 +1,9 @@
 // What a slave does in a cycle: it sees each pin as it stood two cycles earlier, and an edge against the cycle before.
 ghost use mathlib.Core.Path.{_≡_};
 ghost use Rattle.serial.specs.Slave.{offered, slaveTake, slaveDrive, selectedOf, motorolaSelect, captureEdge, driveEdge, motorolaClock, afterTaking, motorolaEdges, motorolaSlave, withMark, tiFalls, tiRises, tiSlave, slaveStep, endedOn, slaveEnd};
-use crate::engine::Engine;
-use crate::engine::Step;
-use crate::lines::Pins;
+use frames::engine::Engine;
+use frames::engine::Step;
+use frames::lines::Pins;
 use registers::settings::Format;
 use registers::settings::Settings;
 
@@ -19,8 +19,8 @@ fn slave_take(s: Settings, e: Engine, may: bool, next: u16) -> Step
     ensures { λ r. ⌜ r ≡ slaveTake s e may next ⌝ }
 {
     let word = offered(may, next);
-    let shift = crate::engine::started(s.bits as u16, word);
-    let framed = crate::engine::with_frame(e, true, shift);
+    let shift = frames::engine::started(s.bits as u16, word);
+    let framed = frames::engine::with_frame(e, true, shift);
     Step {
         engine: framed,
         takes: may,
@@ -34,14 +34,14 @@ fn slave_drive(s: Settings, e: Engine) -> Step
     ensures { λ r. ⌜ r ≡ slaveDrive s e ⌝ }
 {
     let shift = e.shift;
-    let after = crate::engine::driven(s.bits as u16, shift.captured as u16, shift);
-    crate::engine::no_word(crate::engine::with_shift(e, after))
+    let after = frames::engine::driven(s.bits as u16, shift.captured as u16, shift);
+    frames::engine::no_word(frames::engine::with_shift(e, after))
 }
 
 fn selected_of(e: Engine) -> Engine
     ensures { λ r. ⌜ r ≡ selectedOf e ⌝ }
 {
-    let none = crate::engine::clear_shift();
+    let none = frames::engine::clear_shift();
     let mut next = e;
     next.frame = false;
     next.selected = true;
@@ -57,19 +57,19 @@ fn motorola_select(s: Settings, e: Engine, fell: bool, next: u16) -> Step
     if fell {
         let chosen = selected_of(e);
         if phase {
-            return crate::engine::no_word(chosen);
+            return frames::engine::no_word(chosen);
         }
         return slave_take(s, chosen, s.enabled, next);
     }
-    crate::engine::no_word(e)
+    frames::engine::no_word(e)
 }
 
 fn capture_edge(s: Settings, before: Pins, seen: Pins) -> bool
     ensures { λ r. ⌜ r ≡ captureEdge s before seen ⌝ }
 {
     let phase = s.phase;
-    let was = crate::lines::differ(before.clk, s.polarity);
-    let is = crate::lines::differ(seen.clk, s.polarity);
+    let was = frames::lines::differ(before.clk, s.polarity);
+    let is = frames::lines::differ(seen.clk, s.polarity);
     if phase { was & !is } else { !was & is }
 }
 
@@ -77,8 +77,8 @@ fn drive_edge(s: Settings, before: Pins, seen: Pins) -> bool
     ensures { λ r. ⌜ r ≡ driveEdge s before seen ⌝ }
 {
     let phase = s.phase;
-    let was = crate::lines::differ(before.clk, s.polarity);
-    let is = crate::lines::differ(seen.clk, s.polarity);
+    let was = frames::lines::differ(before.clk, s.polarity);
+    let is = frames::lines::differ(seen.clk, s.polarity);
     if phase { !was & is } else { was & !is }
 }
 
@@ -97,7 +97,7 @@ fn motorola_clock(
     let driving = e.frame & drives;
     let taking = drives & s.phase;
     if capturing {
-        return crate::engine::capture_step(crate::slots::capture_width(s), bit, e);
+        return frames::engine::capture_step(frames::slots::capture_width(s), bit, e);
     }
     if driving {
         return slave_drive(s, e);
@@ -105,7 +105,7 @@ fn motorola_clock(
     if taking {
         return slave_take(s, e, s.enabled, next);
     }
-    crate::engine::no_word(e)
+    frames::engine::no_word(e)
 }
 
 fn after_taking(took: bool, r: Step) -> Step
@@ -125,7 +125,7 @@ fn motorola_edges(s: Settings, r: Step, before: Pins, seen: Pins, next: u16) -> 
     if selected {
         let captures = capture_edge(s, before, seen);
         let drives = drive_edge(s, before, seen);
-        let bit = crate::master::data_bit(s, e.shift.level, seen.rxd);
+        let bit = frames::master::data_bit(s, e.shift.level, seen.rxd);
         return after_taking(r.takes, motorola_clock(s, e, captures, drives, next, bit));
     }
     r
@@ -137,7 +137,7 @@ fn motorola_slave(s: Settings, e: Engine, before: Pins, seen: Pins, next: u16) -
 {
     let high = seen.fss;
     if high {
-        return crate::engine::no_word(crate::engine::cleared());
+        return frames::engine::no_word(frames::engine::cleared());
     }
     motorola_edges(
         s,
@@ -161,17 +161,17 @@ fn ti_falls(s: Settings, e: Engine, fss: bool, bit: bool) -> Step
     ensures { λ r. ⌜ r ≡ tiFalls s e fss bit ⌝ }
 {
     let frame = e.frame;
-    let width = crate::slots::capture_width(s);
+    let width = frames::slots::capture_width(s);
     let early = fss & ((e.shift.captured as u16 + 1) < (width as u16));
     let marked = with_mark(e, e.mark | fss);
     if frame {
         if early {
-            let dropped = crate::engine::with_frame(e, false, crate::engine::clear_shift());
-            return crate::engine::no_word(with_mark(dropped, true));
+            let dropped = frames::engine::with_frame(e, false, frames::engine::clear_shift());
+            return frames::engine::no_word(with_mark(dropped, true));
         }
-        return crate::engine::capture_step(width, bit, marked);
+        return frames::engine::capture_step(width, bit, marked);
     }
-    crate::engine::no_word(marked)
+    frames::engine::no_word(marked)
 }
 
 // A rising edge after a mark takes the next word; in a word it drives the next bit.
@@ -186,7 +186,7 @@ fn ti_rises(s: Settings, e: Engine, next: u16) -> Step
     if frame {
         return slave_drive(s, e);
     }
-    crate::engine::no_word(e)
+    frames::engine::no_word(e)
 }
 
 fn ti_slave(s: Settings, e: Engine, before: Pins, seen: Pins, next: u16) -> Step
@@ -195,13 +195,13 @@ fn ti_slave(s: Settings, e: Engine, before: Pins, seen: Pins, next: u16) -> Step
     let falls = before.clk & !seen.clk;
     let rises = !before.clk & seen.clk;
     if falls {
-        let bit = crate::master::data_bit(s, e.shift.level, seen.rxd);
+        let bit = frames::master::data_bit(s, e.shift.level, seen.rxd);
         return ti_falls(s, e, seen.fss, bit);
     }
     if rises {
         return ti_rises(s, e, next);
     }
-    crate::engine::no_word(e)
+    frames::engine::no_word(e)
 }
 
 // The engine after the cycle's edges, as its lines show it.
@@ -212,8 +212,8 @@ pub fn slave_step(s: Settings, e: Engine, before: Pins, seen: Pins, next: u16) -
     match f {
         Format::Motorola => motorola_slave(s, e, before, seen, next),
         Format::Ti => ti_slave(s, e, before, seen, next),
-        Format::Microwire => crate::engine::no_word(crate::engine::cleared()),
-        Format::Reserved => crate::engine::no_word(crate::engine::cleared()),
+        Format::Microwire => frames::engine::no_word(frames::engine::cleared()),
+        Format::Reserved => frames::engine::no_word(frames::engine::cleared()),
     }
 }
 
@@ -221,10 +221,10 @@ fn ended_on(f: Format, e: Engine) -> Engine
     ensures { λ r. ⌜ r ≡ endedOn f e ⌝ }
 {
     match f {
-        Format::Motorola => crate::engine::with_frame(e, false, e.shift),
-        Format::Ti => crate::engine::with_frame(e, false, crate::engine::clear_shift()),
-        Format::Microwire => crate::engine::with_frame(e, false, crate::engine::clear_shift()),
-        Format::Reserved => crate::engine::with_frame(e, false, crate::engine::clear_shift()),
+        Format::Motorola => frames::engine::with_frame(e, false, e.shift),
+        Format::Ti => frames::engine::with_frame(e, false, frames::engine::clear_shift()),
+        Format::Microwire => frames::engine::with_frame(e, false, frames::engine::clear_shift()),
+        Format::Reserved => frames::engine::with_frame(e, false, frames::engine::clear_shift()),
     }
 }
 
@@ -232,7 +232,7 @@ fn ended_on(f: Format, e: Engine) -> Engine
 pub fn slave_end(s: Settings, e: Engine) -> Engine
     ensures { λ r. ⌜ r ≡ slaveEnd s e ⌝ }
 {
-    let over = e.frame & (crate::slots::capture_width(s) <= e.shift.captured);
+    let over = e.frame & (frames::slots::capture_width(s) <= e.shift.captured);
     if over {
         let f = s.format;
         return ended_on(f, e);

@@ -3,7 +3,7 @@ ghost use mathlib.Core.Path.{_≡_};
 ghost use Rattle.serial.specs.Cycle.{deviceOf};
 ghost use Rattle.serial.specs.Sound.{stoppedSound, runningSound, engineSound, soundDevice};
 use crate::Device;
-use crate::engine::Engine;
+use frames::engine::Engine;
 use registers::settings::Settings;
 
 // With SSE clear: no frame, no selection, no TI mark; slot, cycle and bit counts 0.
@@ -18,15 +18,15 @@ fn stopped_sound(e: Engine) -> bool
 fn running_sound(s: Settings, e: Engine) -> bool
     ensures { λ r. ⌜ r ≡ runningSound s e ⌝ }
 {
-    let last = crate::slots::last_slot(s).0;
+    let last = frames::slots::last_slot(s).0;
     ((e.slot.0 <= last) & (e.elapsed.0 < s.divisor.0 as u32))
-        & (e.shift.captured <= crate::slots::capture_width(s))
+        & (e.shift.captured <= frames::slots::capture_width(s))
 }
 
 fn engine_sound(s: Settings, e: Engine) -> bool
     ensures { λ r. ⌜ r ≡ engineSound s e ⌝ }
 {
-    let active = crate::engine::active_of(s, e);
+    let active = frames::engine::active_of(s, e);
     if active {
         running_sound(s, e)
     } else {
@@ -41,7 +41,7 @@ pub fn sound_device(d: Device) -> bool
     let file = d.registers;
     let e = d.engine;
     let s = registers::settings::settings_of(file);
-    let active = crate::engine::active_of(s, e);
+    let active = frames::engine::active_of(s, e);
     let kept = registers::sound::sound_registers(file, active);
     let runs = engine_sound(s, e);
     kept & runs

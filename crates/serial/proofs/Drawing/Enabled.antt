@@ -11,9 +11,9 @@ use Rattle.registers.specs.Settings.{enabledOf, settingsOf}
 use Rattle.registers.specs.Access.{writeModel}
 use Rattle.registers.proofs.Soundness.{enabled-elim, control-intro, sound-elim}
 use Rattle.registers.specs.declared.settings.Settings.{Settings}
-use Rattle.serial.specs.Bits.{cut}
-use Rattle.serial.specs.Slots.{widthOf}
-use Rattle.serial.specs.Lines.{byteOf}
+use Rattle.frames.specs.Bits.{cut}
+use Rattle.frames.specs.Slots.{widthOf}
+use Rattle.frames.specs.Lines.{byteOf}
 use Rattle.serial.specs.Cycle.{DeviceModel, recording, activeDevice}
 use Rattle.serial.proofs.Unreceived.{Masters}
 use Rattle.serial.specs.Access.{engineAfter, writeDevice}
@@ -21,8 +21,8 @@ use Rattle.serial.specs.Sound.{stoppedSound, engineSound, soundDevice}
 use Rattle.serial.proofs.Soundness.{sound-registers, sound-engine, sound-write}
 use Rattle.serial.specs.Drawing.{slotTotal}
 use Rattle.serial.proofs.Drawing.Recorded.{Fresh, load-bytes-injective}
-use Rattle.serial.specs.declared.engine.Engine.{Engine}
-use Rattle.serial.specs.declared.lines.Pins.{Pins}
+use Rattle.frames.specs.declared.engine.Engine.{Engine}
+use Rattle.frames.specs.declared.lines.Pins.{Pins}
 use Rattle.serial.specs.Demand3.{Enabling, LastSentence}
 
 -- no frame and no idle slot

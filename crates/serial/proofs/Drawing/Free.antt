@@ -16,10 +16,10 @@ use Rattle.registers.specs.Transfer.{rest}
 use Rattle.registers.specs.declared.settings.Format.{Format}
 use Rattle.registers.specs.declared.settings.Format.the-variants.{Motorola, Ti, Microwire, Reserved}
 use Rattle.registers.specs.declared.settings.Settings.{Settings}
-use Rattle.serial.specs.Engine.{clearShift, noWord}
-use Rattle.serial.specs.Slots.{eventOf, lastSlot, levelsOf}
-use Rattle.serial.specs.Lines.{masterLines, idleOn, frameLines, masterTxd, joinedTo}
-use Rattle.serial.specs.Master.{act, resting, acting, dataBit, masterStep, ticked, masterEnd}
+use Rattle.frames.specs.Engine.{clearShift, noWord}
+use Rattle.frames.specs.Slots.{eventOf, lastSlot, levelsOf}
+use Rattle.frames.specs.Lines.{masterLines, idleOn, frameLines, masterTxd, joinedTo}
+use Rattle.frames.specs.Master.{act, resting, acting, dataBit, masterStep, ticked, masterEnd}
 use Rattle.serial.specs.Cycle.{DeviceModel, cycleOf, after}
 use Rattle.serial.specs.Busy.{busyDevice}
 use Rattle.serial.proofs.Cycles.{waits-cons}
@@ -35,12 +35,12 @@ use Rattle.serial.proofs.Drawing.TiWords.{framesTi-until}
 use Rattle.serial.proofs.Drawing.MicrowireWords.{framesM-until}
 use Rattle.serial.proofs.Drawing.Recorded.{Fresh, fixed-own, fresh-engine}
 use Rattle.serial.specs.Demand3.{busyFor}
-use Rattle.serial.specs.declared.engine.Shift.{Shift}
-use Rattle.serial.specs.declared.engine.Engine.{Engine}
-use Rattle.serial.specs.declared.lines.Lines.{Lines}
-use Rattle.serial.specs.declared.lines.Pins.{Pins}
-use Rattle.serial.specs.declared.slots.Event.{Event}
-use Rattle.serial.specs.declared.slots.Event.the-variants.{Release}
+use Rattle.frames.specs.declared.engine.Shift.{Shift}
+use Rattle.frames.specs.declared.engine.Engine.{Engine}
+use Rattle.frames.specs.declared.lines.Lines.{Lines}
+use Rattle.frames.specs.declared.lines.Pins.{Pins}
+use Rattle.frames.specs.declared.slots.Event.{Event}
+use Rattle.frames.specs.declared.slots.Event.the-variants.{Release}
 
 -- BSY of a master alone.
 abbrev busy : Solo → Bool

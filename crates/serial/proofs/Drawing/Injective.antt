@@ -12,12 +12,12 @@ use Rattle.registers.specs.Choose.{bitAt}
 use Rattle.registers.specs.declared.settings.Format.{Format}
 use Rattle.registers.specs.declared.settings.Format.the-variants.{Motorola, Ti, Microwire, Reserved}
 use Rattle.registers.specs.declared.settings.Settings.{Settings}
-use Rattle.serial.specs.Bits.{bitOf, shiftedIn, cut}
-use Rattle.serial.specs.Lines.{byteOf, idleOn}
-use Rattle.serial.specs.Slots.{widthOn, widthOf}
+use Rattle.frames.specs.Bits.{bitOf, shiftedIn, cut}
+use Rattle.frames.specs.Lines.{byteOf, idleOn}
+use Rattle.frames.specs.Slots.{widthOn, widthOf}
 use Rattle.serial.specs.Drawing.{low, idle, bitLines, frame0, frames0, chain1, frames1, held, joined, framesTi, quiets, chainM, framesM, drawingOn, drawing, stretch, totalOn, slotTotal}
 use Rattle.serial.proofs.Top.{top, top-zero, top-next, top-full}
-use Rattle.serial.specs.declared.lines.Lines.{Lines}
+use Rattle.frames.specs.declared.lines.Lines.{Lines}
 
 -- Lists ----------------------------------------------------------------------------------------------------------------
 

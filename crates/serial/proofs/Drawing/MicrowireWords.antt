@@ -10,20 +10,20 @@ use borrow.Author.Tests.{eq-eqb, ne-eqb, lt-ltb, le-ltb, le-leb, lt-leb}
 use Rattle.registers.specs.Time.{slots}
 use Rattle.registers.specs.declared.settings.Format.the-variants.{Microwire}
 use Rattle.registers.specs.declared.settings.Settings.{Settings}
-use Rattle.serial.specs.Bits.{bitOf}
-use Rattle.serial.specs.Engine.{started, driven}
-use Rattle.serial.specs.Slots.{eventOf, microwireEvent, lastSlot, widthOf, microwireLevels, levelsOf}
-use Rattle.serial.specs.Lines.{masterLines, frameLines, masterTxd}
-use Rattle.serial.specs.Master.{chainStep}
+use Rattle.frames.specs.Bits.{bitOf}
+use Rattle.frames.specs.Engine.{started, driven}
+use Rattle.frames.specs.Slots.{eventOf, microwireEvent, lastSlot, widthOf, microwireLevels, levelsOf}
+use Rattle.frames.specs.Lines.{masterLines, frameLines, masterTxd}
+use Rattle.frames.specs.Master.{chainStep}
 use Rattle.serial.specs.Drawing.{low, idle, bitLines, quiet, quiets, chainM, framesM}
 use Rattle.serial.proofs.Cycles.{waits-cons}
 use Rattle.serial.proofs.WithinSlot.{sending, shifted}
 use Rattle.serial.proofs.Unreceived.{stepWithoutReceived}
 use Rattle.serial.proofs.Drawing.Solo.{Solo}
 use Rattle.serial.proofs.Drawing.Slot.{fixed, solo, on, restAt, Slot, Draws, done, draw, draws-end, draws-same, slot-on, slot-start, capture-move, word-run, Over, over, Until, until-done, until-draw, until-then}
-use Rattle.serial.specs.declared.engine.Shift.{Shift}
-use Rattle.serial.specs.declared.slots.Levels.{Levels}
-use Rattle.serial.specs.declared.slots.Event.the-variants.{BeginDrive, Drive, Capture, Chain, Quiet, Release, Pause}
+use Rattle.frames.specs.declared.engine.Shift.{Shift}
+use Rattle.frames.specs.declared.slots.Levels.{Levels}
+use Rattle.frames.specs.declared.slots.Event.the-variants.{BeginDrive, Drive, Capture, Chain, Quiet, Release, Pause}
 
 -- The slot table read at the slots of a bit ------------------------------------------------------------------------------
 

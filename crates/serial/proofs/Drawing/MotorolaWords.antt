@@ -8,11 +8,11 @@ use borrow.Author.Tests.{lt-ltb}
 use Rattle.registers.specs.Time.{slots}
 use Rattle.registers.specs.declared.settings.Format.the-variants.{Motorola}
 use Rattle.registers.specs.declared.settings.Settings.{Settings}
-use Rattle.serial.specs.Bits.{bitOf}
-use Rattle.serial.specs.Engine.{clearShift, started, driven}
-use Rattle.serial.specs.Slots.{eventOf, motorolaEvent, lastSlot, widthOf, motorolaLevels, levelsOf}
-use Rattle.serial.specs.Lines.{masterLines, frameLines, masterTxd}
-use Rattle.serial.specs.Master.{chainStep}
+use Rattle.frames.specs.Bits.{bitOf}
+use Rattle.frames.specs.Engine.{clearShift, started, driven}
+use Rattle.frames.specs.Slots.{eventOf, motorolaEvent, lastSlot, widthOf, motorolaLevels, levelsOf}
+use Rattle.frames.specs.Lines.{masterLines, frameLines, masterTxd}
+use Rattle.frames.specs.Master.{chainStep}
 use Rattle.serial.proofs.Cycles.{waits-cons}
 use Rattle.serial.proofs.WithinSlot.{sending, shifted}
 use Rattle.serial.proofs.Events.{motorola-drive, motorola-capture, motorola-last, motorola-release, lowAt, levels-drive, levels-capture, levels-last, levels-first}
@@ -20,10 +20,10 @@ use Rattle.serial.specs.Drawing.{low, idle, bitLines, frame0, frames0, c
 use Rattle.serial.proofs.Unreceived.{stepWithoutReceived}
 use Rattle.serial.proofs.Drawing.Solo.{Solo}
 use Rattle.serial.proofs.Drawing.Slot.{fixed, solo, on, restAt, Slot, Draws, done, draw, slot-on, slot-start, slot-release, slot-pause, capture-move, word-run, Over, over, Until, until-done, until-draw, until-then, until-draws}
-use Rattle.serial.specs.declared.engine.Shift.{Shift}
-use Rattle.serial.specs.declared.lines.Lines.{Lines}
-use Rattle.serial.specs.declared.slots.Levels.{Levels}
-use Rattle.serial.specs.declared.slots.Event.the-variants.{Begin, Drive, Capture, Chain, Pause}
+use Rattle.frames.specs.declared.engine.Shift.{Shift}
+use Rattle.frames.specs.declared.lines.Lines.{Lines}
+use Rattle.frames.specs.declared.slots.Levels.{Levels}
+use Rattle.frames.specs.declared.slots.Event.the-variants.{Begin, Drive, Capture, Chain, Pause}
 
 module _ (s : Settings) (phase : Bool) where
   abbrev S : Settings

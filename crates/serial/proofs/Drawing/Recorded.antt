@@ -10,11 +10,11 @@ use Rattle.registers.specs.Time.{cycles, slots, cyclesOf}
 use Rattle.registers.specs.declared.settings.Format.{Format}
 use Rattle.registers.specs.declared.settings.Format.the-variants.{Motorola, Ti, Microwire, Reserved}
 use Rattle.registers.specs.declared.settings.Settings.{Settings}
-use Rattle.serial.specs.Bits.{cut}
-use Rattle.serial.specs.Engine.{clearShift, cleared, withFrame, withElapsed, withSlot}
-use Rattle.serial.specs.Slots.{widthOf}
-use Rattle.serial.specs.Lines.{byteOf, masterLines, masterTxd}
-use Rattle.serial.specs.Master.{resting, acting, masterStep, masterEnd}
+use Rattle.frames.specs.Bits.{cut}
+use Rattle.frames.specs.Engine.{clearShift, cleared, withFrame, withElapsed, withSlot}
+use Rattle.frames.specs.Slots.{widthOf}
+use Rattle.frames.specs.Lines.{byteOf, masterLines, masterTxd}
+use Rattle.frames.specs.Master.{resting, acting, masterStep, masterEnd}
 use Rattle.serial.specs.Cycle.{DeviceModel, recording}
 use Rattle.serial.specs.Drawing.{slotTotal, idle, drawingOn, drawing, stretch}
 use Rattle.serial.proofs.Drawing.Injective.{Serves, bytes-injective, length-stretch, length-drawing}
@@ -25,9 +25,9 @@ use Rattle.serial.proofs.Drawing.Window.{window-injective}
 use Rattle.serial.proofs.Drawing.MotorolaWords.{frames0-until, frames1-until}
 use Rattle.serial.proofs.Drawing.TiWords.{framesTi-until}
 use Rattle.serial.proofs.Drawing.MicrowireWords.{framesM-until}
-use Rattle.serial.specs.declared.engine.Shift.{Shift}
-use Rattle.serial.specs.declared.lines.Lines.{Lines}
-use Rattle.serial.specs.declared.lines.Pins.{Pins}
+use Rattle.frames.specs.declared.engine.Shift.{Shift}
+use Rattle.frames.specs.declared.lines.Lines.{Lines}
+use Rattle.frames.specs.declared.lines.Pins.{Pins}
 
 -- An enabled master with permitted settings s, no frame in progress and no idle slot.
 pub record Fresh (s : Settings) (d : DeviceModel) : Type 0 where

@@ -12,22 +12,22 @@ use Rattle.registers.specs.Time.{cycles, slots}
 use Rattle.registers.specs.Transfer.{rest}
 use Rattle.registers.specs.declared.settings.Format.{Format}
 use Rattle.registers.specs.declared.settings.Settings.{Settings}
-use Rattle.serial.specs.Bits.{bitOf}
-use Rattle.serial.specs.Engine.{clearShift, noWord, capturedOf, captureStep, cleared, withShift, withSlot}
-use Rattle.serial.specs.Slots.{eventOf, lastSlot}
-use Rattle.serial.specs.Lines.{masterLines, masterTxd}
-use Rattle.serial.specs.Master.{act, resting, acting, dataBit, masterStep, masterEnd}
+use Rattle.frames.specs.Bits.{bitOf}
+use Rattle.frames.specs.Engine.{clearShift, noWord, capturedOf, captureStep, cleared, withShift, withSlot}
+use Rattle.frames.specs.Slots.{eventOf, lastSlot}
+use Rattle.frames.specs.Lines.{masterLines, masterTxd}
+use Rattle.frames.specs.Master.{act, resting, acting, dataBit, masterStep, masterEnd}
 use Rattle.serial.specs.Drawing.{idle, bitLines, stretch}
 use Rattle.serial.proofs.Cycles.{waits, waits-cons}
 use Rattle.serial.proofs.Unreceived.{withoutReceived, stepWithoutReceived}
 use Rattle.serial.proofs.WithinSlot.{step-within, elapsedAt, Live, nextSlot, afterCycles, end-elapsed, after-within, after-last, next-within, next-last, sending, shifted}
 use Rattle.serial.proofs.Drawing.Solo.{Solo, moves, acted, cycle, shows, Goes, none, more}
-use Rattle.serial.specs.declared.engine.Shift.{Shift}
-use Rattle.serial.specs.declared.engine.Engine.{Engine}
-use Rattle.serial.specs.declared.engine.Step.{Step}
-use Rattle.serial.specs.declared.lines.Lines.{Lines}
-use Rattle.serial.specs.declared.slots.Event.{Event}
-use Rattle.serial.specs.declared.slots.Event.the-variants.{Release}
+use Rattle.frames.specs.declared.engine.Shift.{Shift}
+use Rattle.frames.specs.declared.engine.Engine.{Engine}
+use Rattle.frames.specs.declared.engine.Step.{Step}
+use Rattle.frames.specs.declared.lines.Lines.{Lines}
+use Rattle.frames.specs.declared.slots.Event.{Event}
+use Rattle.frames.specs.declared.slots.Event.the-variants.{Release}
 
 -- the settings of an enabled master, with its format and phase
 abbrev pub fixed : Format → Bool → Settings → Settings

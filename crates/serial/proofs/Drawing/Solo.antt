@@ -9,16 +9,16 @@ use Rattle.registers.specs.Choose.{pick}
 use Rattle.registers.specs.Settings.{settingsOf}
 use Rattle.registers.specs.Transfer.{rest}
 use Rattle.registers.specs.declared.settings.Settings.{Settings}
-use Rattle.serial.specs.Engine.{cleared, noWord}
-use Rattle.serial.specs.Lines.{masterLines}
-use Rattle.serial.specs.Master.{masterStep, masterEnd}
+use Rattle.frames.specs.Engine.{cleared, noWord}
+use Rattle.frames.specs.Lines.{masterLines}
+use Rattle.frames.specs.Master.{masterStep, masterEnd}
 use Rattle.serial.specs.Cycle.{DeviceModel, cycleOf, recording}
 use Rattle.serial.proofs.Cycles.{control-cycle, waits}
 use Rattle.serial.proofs.Unreceived.{withoutReceived, stepWithoutReceived, Masters, sendStep, sendOf, lines-sends, engine-sends, tx-sends}
-use Rattle.serial.specs.declared.engine.Engine.{Engine}
-use Rattle.serial.specs.declared.engine.Step.{Step}
-use Rattle.serial.specs.declared.lines.Lines.{Lines}
-use Rattle.serial.specs.declared.lines.Pins.{Pins}
+use Rattle.frames.specs.declared.engine.Engine.{Engine}
+use Rattle.frames.specs.declared.engine.Step.{Step}
+use Rattle.frames.specs.declared.lines.Lines.{Lines}
+use Rattle.frames.specs.declared.lines.Pins.{Pins}
 
 -- The words to send and the engine: all that a master alone is.
 pub record Solo : Type 0 where

@@ -9,11 +9,11 @@ use borrow.Author.Tests.{ne-eqb}
 use Rattle.registers.proofs.Picks.{pick-no}
 use Rattle.registers.specs.declared.settings.Format.the-variants.{Ti}
 use Rattle.registers.specs.declared.settings.Settings.{Settings}
-use Rattle.serial.specs.Bits.{bitOf}
-use Rattle.serial.specs.Engine.{clearShift, started, driven}
-use Rattle.serial.specs.Slots.{eventOf, tiEvent, lastSlot, widthOf, tiLevels, levelsOf}
-use Rattle.serial.specs.Lines.{masterLines, frameLines, masterTxd}
-use Rattle.serial.specs.Master.{joinedShift, joinStep}
+use Rattle.frames.specs.Bits.{bitOf}
+use Rattle.frames.specs.Engine.{clearShift, started, driven}
+use Rattle.frames.specs.Slots.{eventOf, tiEvent, lastSlot, widthOf, tiLevels, levelsOf}
+use Rattle.frames.specs.Lines.{masterLines, frameLines, masterTxd}
+use Rattle.frames.specs.Master.{joinedShift, joinStep}
 use Rattle.serial.proofs.Cycles.{waits-cons}
 use Rattle.serial.proofs.WithinSlot.{sending, shifted}
 use Rattle.serial.proofs.Events.{lowAt, ti-drive, ti-capture, ti-last, ti-levels-even, ti-levels-odd}
@@ -21,9 +21,9 @@ use Rattle.serial.specs.Drawing.{low, bitLines, marked, held, joined, fr
 use Rattle.serial.proofs.Unreceived.{stepWithoutReceived}
 use Rattle.serial.proofs.Drawing.Solo.{Solo}
 use Rattle.serial.proofs.Drawing.Slot.{fixed, solo, on, restAt, Slot, Draws, slot-on, slot-last, slot-start, capture-move, word-run, Last, last, Until, until-done, until-draw, until-then}
-use Rattle.serial.specs.declared.engine.Shift.{Shift}
-use Rattle.serial.specs.declared.slots.Levels.{Levels}
-use Rattle.serial.specs.declared.slots.Event.the-variants.{Begin, Drive, First, Capture, JoinDrive, JoinCapture}
+use Rattle.frames.specs.declared.engine.Shift.{Shift}
+use Rattle.frames.specs.declared.slots.Levels.{Levels}
+use Rattle.frames.specs.declared.slots.Event.the-variants.{Begin, Drive, First, Capture, JoinDrive, JoinCapture}
 
 module _ (s : Settings) (phase : Bool) where
   abbrev S : Settings

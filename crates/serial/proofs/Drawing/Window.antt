@@ -11,12 +11,12 @@ use borrow.Author.Tests.{ltb-true, ltb-false}
 use Rattle.registers.specs.declared.settings.Format.{Format}
 use Rattle.registers.specs.declared.settings.Format.the-variants.{Motorola, Ti, Microwire, Reserved}
 use Rattle.registers.specs.declared.settings.Settings.{Settings}
-use Rattle.serial.specs.Bits.{bitOf, cut}
-use Rattle.serial.specs.Slots.{widthOf}
-use Rattle.serial.specs.Lines.{idleOn}
+use Rattle.frames.specs.Bits.{bitOf, cut}
+use Rattle.frames.specs.Slots.{widthOf}
+use Rattle.frames.specs.Lines.{idleOn}
 use Rattle.serial.specs.Drawing.{slotTotal, totalOn, low, idle, bitLines, frame0, frames0, chain1, joined, quiet, quiets, chainM, drawingOn, drawing, stretch}
 use Rattle.serial.proofs.Drawing.Injective.{Serves, cons-tail, cons-head, nil-cons, append-left, idle-released, drawing-injective, stretch-injective, length-stretch, length-drawing}
-use Rattle.serial.specs.declared.lines.Lines.{Lines}
+use Rattle.frames.specs.declared.lines.Lines.{Lines}
 
 -- Behind the list A all entries are x.
 behind : (A : List Lines) (k : ℕ) (x : Lines) (P : List Lines) (l : Lines) (Q : List Lines) → A ++ replicate k x ≡ P ++ (l ∷ Q) → length A ≤ length P → l ≡ x

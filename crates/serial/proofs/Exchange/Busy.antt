@@ -12,7 +12,7 @@ use Rattle.serial.specs.Demand3.{busy, load}
 use Rattle.serial.specs.Demand3.Which.{master}
 use Rattle.serial.proofs.Drawing.Recorded.{Fresh}
 use Rattle.serial.proofs.Drawing.Free.{busyCycles, stays-busy, gets-free}
-use Rattle.serial.specs.declared.lines.Pins.{Pins}
+use Rattle.frames.specs.declared.lines.Pins.{Pins}
 
 -- what the slave's lines put on the master's pins in n cycles
 abbrev masterPins : ℕ → PairModel → List Pins

@@ -16,8 +16,8 @@ use Rattle.registers.specs.Transfer.{waitingOf, nextWord}
 use Rattle.registers.specs.declared.Control.{Control}
 use Rattle.registers.specs.declared.settings.Format.{Format}
 use Rattle.registers.specs.declared.settings.Settings.{Settings}
-use Rattle.serial.specs.Engine.{cleared, noWord}
-use Rattle.serial.specs.Lines.{idleOn, linesOf, masterLines, masterTxd}
+use Rattle.frames.specs.Engine.{cleared, noWord}
+use Rattle.frames.specs.Lines.{idleOn, linesOf, masterLines, masterTxd}
 use Rattle.serial.specs.Slave.{slaveStep}
 use Rattle.serial.specs.Cycle.{DeviceModel, deviceStep, stepOf, activeDevice}
 use Rattle.serial.proofs.Cycles.{control-cycle, step-stopped}
@@ -25,8 +25,8 @@ use Rattle.serial.specs.Access.{writeDevice}
 use Rattle.serial.proofs.Soundness.{sound-registers}
 use Rattle.serial.specs.Pair.{wire, PairModel, pairCycle, pairRun}
 use Rattle.serial.proofs.Trace.{iterate}
-use Rattle.serial.specs.Bits.{cut}
-use Rattle.serial.specs.Slots.{widthOf}
+use Rattle.frames.specs.Bits.{cut}
+use Rattle.frames.specs.Slots.{widthOf}
 use Rattle.serial.proofs.Drawing.Recorded.{Fresh}
 use Rattle.serial.proofs.Drawing.Enabled.{fresh-sound}
 use Rattle.serial.proofs.Drawing.Free.{busyCycles, busy-bound}
@@ -43,9 +43,9 @@ use Rattle.serial.proofs.Exchange.Lead.{Lead, lead-steps, lead-write₁
 use Rattle.serial.proofs.Exchange.Enable.{switchedOn, settings-on, control-on}
 use Rattle.serial.specs.Demand3.{Step, plays, cyclesIn, controlOf, Stays, Start, completed, received, load, held, busyFor, Received, Exchanged, slaveOn, masterOn, Demand3}
 use Rattle.serial.specs.Demand3.Which.{master, slave}
-use Rattle.serial.specs.declared.engine.Engine.{Engine}
-use Rattle.serial.specs.declared.lines.Lines.{Lines}
-use Rattle.serial.specs.declared.lines.Pins.{Pins}
+use Rattle.frames.specs.declared.engine.Engine.{Engine}
+use Rattle.frames.specs.declared.lines.Lines.{Lines}
+use Rattle.frames.specs.declared.lines.Pins.{Pins}
 
 -- Many cycles, projected -----------------------------------------------------------------------------------------------
 

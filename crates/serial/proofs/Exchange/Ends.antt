@@ -9,11 +9,11 @@ use Rattle.registers.specs.Choose.{pick}
 use Rattle.registers.specs.Time.{cycles, slots}
 use Rattle.registers.specs.Transfer.{rest}
 use Rattle.registers.specs.declared.settings.Format.the-variants.{Motorola}
-use Rattle.serial.specs.Bits.{bitOf, cut}
-use Rattle.serial.specs.Engine.{cleared, clearShift, noWord, loaded, withSlot}
-use Rattle.serial.specs.Slots.{eventOf, motorolaEvent, lastSlot}
-use Rattle.serial.specs.Lines.{masterLines, slaveLines, masterTxd}
-use Rattle.serial.specs.Master.{act, masterStep, acting, resting, dataBit}
+use Rattle.frames.specs.Bits.{bitOf, cut}
+use Rattle.frames.specs.Engine.{cleared, clearShift, noWord, loaded, withSlot}
+use Rattle.frames.specs.Slots.{eventOf, motorolaEvent, lastSlot}
+use Rattle.frames.specs.Lines.{masterLines, slaveLines, masterTxd}
+use Rattle.frames.specs.Master.{act, masterStep, acting, resting, dataBit}
 use Rattle.serial.specs.Slave.{slaveStep, slaveEnd, motorolaSlave}
 use Rattle.serial.specs.Pair.{wire}
 use Rattle.serial.proofs.Cycles.{waits, waits-cons}
@@ -26,9 +26,9 @@ use Rattle.serial.proofs.Events.{motorola-release, levels-first}
 use Rattle.serial.proofs.Exchange.Moves.{Queues, inFrame, hidden, acted-by, slave-by, Slot, slot-of}
 use Rattle.serial.proofs.Exchange.Wiring.{front, holding, Holds, starts, Still, idle-stays}
 use Rattle.serial.proofs.Exchange.Motorola.{sm, ss, filledAt, received, lines-first, calm, ended}
-use Rattle.serial.specs.declared.engine.Engine.{Engine}
-use Rattle.serial.specs.declared.engine.Step.{Step}
-use Rattle.serial.specs.declared.slots.Event.the-variants.{Release}
+use Rattle.frames.specs.declared.engine.Engine.{Engine}
+use Rattle.frames.specs.declared.engine.Step.{Step}
+use Rattle.frames.specs.declared.slots.Event.the-variants.{Release}
 
 -- between frames
 abbrev pub idle : Queues → Two

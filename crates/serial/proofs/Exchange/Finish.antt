@@ -13,9 +13,9 @@ use Rattle.registers.specs.Transfer.{rest, added}
 use Rattle.registers.specs.declared.settings.Format.{Format}
 use Rattle.registers.specs.declared.settings.Settings.{Settings}
 use Rattle.serial.proofs.Trace.{iterate, iterate-add, iterate-fixed, trace-map, trace-run}
-use Rattle.serial.specs.Bits.{cut}
-use Rattle.serial.specs.Slots.{widthOf, captureWidth}
-use Rattle.serial.specs.Lines.{idleOn}
+use Rattle.frames.specs.Bits.{cut}
+use Rattle.frames.specs.Slots.{widthOf, captureWidth}
+use Rattle.frames.specs.Lines.{idleOn}
 use Rattle.serial.proofs.Exchange.Core.{Receiver, Pair, plain, push, coreCycle}
 use Rattle.serial.proofs.Exchange.Settle.{Two, rested, Meets, slots-trace}
 use Rattle.serial.proofs.Exchange.Moves.{LiveSlot}

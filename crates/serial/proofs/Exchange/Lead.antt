@@ -16,8 +16,8 @@ use Rattle.registers.proofs.Accesses.{control-read}
 use Rattle.registers.specs.declared.Control.{Control}
 use Rattle.registers.specs.declared.offsets.Register.{Register}
 use Rattle.registers.specs.declared.offsets.Register.the-variants.{Cr0, Cr1, Dr, Sr, Cpsr, Imsc, Ris, Mis, Icr, Dmacr, Identity, Reserved, Outside}
-use Rattle.serial.specs.Engine.{cleared, noWord}
-use Rattle.serial.specs.Lines.{linesOf}
+use Rattle.frames.specs.Engine.{cleared, noWord}
+use Rattle.frames.specs.Lines.{linesOf}
 use Rattle.serial.specs.Cycle.{DeviceModel, endOf, takeIf, receiveIf, stepModel, deviceStep, cycleOf, activeDevice}
 use Rattle.serial.proofs.Cycles.{control-cycle, step-stopped, end-cleared}
 use Rattle.serial.specs.Access.{readDevice, writeDevice, engineAfter}
@@ -27,8 +27,8 @@ use Rattle.serial.specs.Pair.{wire, PairModel, pairCycle}
 use Rattle.serial.specs.Demand3.{Step, play, plays, cyclesIn, controlOf, Stays}
 use Rattle.serial.specs.Demand3.Which.{master, slave}
 use Rattle.serial.specs.Demand3.Step.{read, write}
-use Rattle.serial.specs.declared.lines.Lines.{Lines}
-use Rattle.serial.specs.declared.lines.Pins.{Pins}
+use Rattle.frames.specs.declared.lines.Lines.{Lines}
+use Rattle.frames.specs.declared.lines.Pins.{Pins}
 
 -- Accesses that leave the control registers leave the engine, the pins and the lines ----------------------------------
 

@@ -8,11 +8,11 @@ use borrow.Author.Tests.{le-leb, lt-leb, lt-ltb}
 use Rattle.registers.specs.Time.{cycles, slots}
 use Rattle.registers.specs.declared.settings.Format.the-variants.{Motorola}
 use Rattle.registers.specs.declared.settings.Settings.{Settings}
-use Rattle.serial.specs.Bits.{bitOf, cut, shiftedIn}
-use Rattle.serial.specs.Engine.{withShift, noWord, driven, captureStep, cleared, withFrame, withSelected}
-use Rattle.serial.specs.Slots.{eventOf, lastSlot, widthOf, motorolaLevels, levelsOf}
-use Rattle.serial.specs.Lines.{masterLines, slaveLines, frameLines, masterTxd}
-use Rattle.serial.specs.Master.{dataBit}
+use Rattle.frames.specs.Bits.{bitOf, cut, shiftedIn}
+use Rattle.frames.specs.Engine.{withShift, noWord, driven, captureStep, cleared, withFrame, withSelected}
+use Rattle.frames.specs.Slots.{eventOf, lastSlot, widthOf, motorolaLevels, levelsOf}
+use Rattle.frames.specs.Lines.{masterLines, slaveLines, frameLines, masterTxd}
+use Rattle.frames.specs.Master.{dataBit}
 use Rattle.serial.specs.Slave.{slaveStep, slaveEnd, motorolaSlave, motorolaSelect, motorolaEdges, motorolaClock, captureEdge, driveEdge}
 use Rattle.serial.specs.Pair.{wire}
 use Rattle.serial.proofs.WithinSlot.{sending, shifted}
@@ -21,10 +21,10 @@ use Rattle.serial.proofs.Top.{top, top-next, top-last}
 use Rattle.serial.proofs.Exchange.Core.{Receiver, Side, plain, push, slaveSide}
 use Rattle.serial.proofs.Exchange.Settle.{Two, slotStep}
 use Rattle.serial.proofs.Events.{motorola-drive, motorola-capture, lowAt, levels-drive, levels-capture}
-use Rattle.serial.specs.declared.engine.Engine.{Engine}
-use Rattle.serial.specs.declared.engine.Shift.{Shift}
-use Rattle.serial.specs.declared.slots.Levels.{Levels}
-use Rattle.serial.specs.declared.slots.Event.the-variants.{Drive, Capture}
+use Rattle.frames.specs.declared.engine.Engine.{Engine}
+use Rattle.frames.specs.declared.engine.Shift.{Shift}
+use Rattle.frames.specs.declared.slots.Levels.{Levels}
+use Rattle.frames.specs.declared.slots.Event.the-variants.{Drive, Capture}
 use Rattle.serial.proofs.Exchange.Moves.{Queues, inFrame, shown, acted-by, next-in, capture-in, completed, capture-last, slave-by, Slot, slot-of, LiveSlot, slot-then}
 use Rattle.serial.proofs.Exchange.Quiet.{quiet-low}
 

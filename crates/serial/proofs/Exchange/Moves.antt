@@ -10,11 +10,11 @@ use lib.ListN.{getD}
 use borrow.Author.Tests.{eq-eqb, ne-eqb, lt-ltb}
 use Rattle.registers.specs.Time.{slots}
 use Rattle.registers.specs.declared.settings.Settings.{Settings}
-use Rattle.serial.specs.Bits.{cut, shiftedIn}
-use Rattle.serial.specs.Engine.{withShift, noWord, capturedOf, completes, captureStep}
-use Rattle.serial.specs.Slots.{eventOf, lastSlot}
-use Rattle.serial.specs.Lines.{masterLines, slaveLines, masterTxd}
-use Rattle.serial.specs.Master.{act, masterStep, acting, dataBit}
+use Rattle.frames.specs.Bits.{cut, shiftedIn}
+use Rattle.frames.specs.Engine.{withShift, noWord, capturedOf, completes, captureStep}
+use Rattle.frames.specs.Slots.{eventOf, lastSlot}
+use Rattle.frames.specs.Lines.{masterLines, slaveLines, masterTxd}
+use Rattle.frames.specs.Master.{act, masterStep, acting, dataBit}
 use Rattle.serial.specs.Slave.{slaveStep, slaveEnd}
 use Rattle.serial.specs.Pair.{wire}
 use Rattle.serial.proofs.Cycles.{waits}
@@ -23,12 +23,12 @@ use Rattle.serial.proofs.WithinSlot.{Live, next-within, sending, shifte
 use Rattle.serial.proofs.Exchange.Settle.{Two, nextSide, slotStep, next}
 use Rattle.serial.proofs.Trace.{Trace, more}
 use Rattle.serial.proofs.Exchange.Quiet.{side-after}
-use Rattle.serial.specs.declared.engine.Engine.{Engine}
-use Rattle.serial.specs.declared.engine.Shift.{Shift}
-use Rattle.serial.specs.declared.engine.Step.{Step}
-use Rattle.serial.specs.declared.lines.Lines.{Lines}
-use Rattle.serial.specs.declared.lines.Pins.{Pins}
-use Rattle.serial.specs.declared.slots.Event.{Event}
+use Rattle.frames.specs.declared.engine.Engine.{Engine}
+use Rattle.frames.specs.declared.engine.Shift.{Shift}
+use Rattle.frames.specs.declared.engine.Step.{Step}
+use Rattle.frames.specs.declared.lines.Lines.{Lines}
+use Rattle.frames.specs.declared.lines.Pins.{Pins}
+use Rattle.frames.specs.declared.slots.Event.{Event}
 
 -- what a transfer leaves alone: the queues
 pub record Queues : Type 0 where

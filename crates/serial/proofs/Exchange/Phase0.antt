@@ -7,11 +7,11 @@ use native.Mathlib.Omega.{arith}
 use lib.ListN.{length}
 use borrow.Author.Tests.{ne-eqb}
 use Rattle.registers.specs.Transfer.{rest}
-use Rattle.serial.specs.Bits.{bitOf, cut}
-use Rattle.serial.specs.Engine.{noWord, begun, loaded, started, driven}
-use Rattle.serial.specs.Slots.{eventOf, lastSlot, widthOf}
-use Rattle.serial.specs.Lines.{slaveLines}
-use Rattle.serial.specs.Master.{dataBit}
+use Rattle.frames.specs.Bits.{bitOf, cut}
+use Rattle.frames.specs.Engine.{noWord, begun, loaded, started, driven}
+use Rattle.frames.specs.Slots.{eventOf, lastSlot, widthOf}
+use Rattle.frames.specs.Lines.{slaveLines}
+use Rattle.frames.specs.Master.{dataBit}
 use Rattle.serial.specs.Slave.{slaveStep, motorolaSlave, motorolaSelect, motorolaEdges, captureEdge, driveEdge, motorolaClock}
 use Rattle.serial.specs.Pair.{wire}
 use Rattle.serial.proofs.WithinSlot.{sending, shifted}
@@ -24,7 +24,7 @@ use Rattle.serial.proofs.Exchange.Moves.{Queues, inFrame, shown, hidden
 use Rattle.serial.proofs.Exchange.Motorola.{sm, ss, step, chosen, drivenAt, filledAt, received, lines-at, in-word, calm, ended, word-run}
 use Rattle.serial.proofs.Exchange.Wiring.{front, holding, lastOf, Exchange}
 use Rattle.serial.proofs.Exchange.Ends.{idle, opened, begin-acts, release-slot, pause-slot, finalAt, ever}
-use Rattle.serial.specs.declared.slots.Event.the-variants.{Drive, Pause}
+use Rattle.frames.specs.declared.slots.Event.the-variants.{Drive, Pause}
 
 -- both words are taken, the slave's first bit is on its line
 abbrev begunAt : ℕ → ℕ → ℕ → Queues → Two

@@ -8,11 +8,11 @@ use lib.ListN.{length}
 use Rattle.registers.specs.Time.{slots}
 use Rattle.registers.specs.Choose.{pick}
 use Rattle.registers.specs.Transfer.{rest}
-use Rattle.serial.specs.Bits.{bitOf, cut}
-use Rattle.serial.specs.Engine.{clearShift, noWord, begun, loaded, started, driven}
-use Rattle.serial.specs.Slots.{eventOf, lastSlot, widthOf}
-use Rattle.serial.specs.Lines.{slaveLines}
-use Rattle.serial.specs.Master.{dataBit}
+use Rattle.frames.specs.Bits.{bitOf, cut}
+use Rattle.frames.specs.Engine.{clearShift, noWord, begun, loaded, started, driven}
+use Rattle.frames.specs.Slots.{eventOf, lastSlot, widthOf}
+use Rattle.frames.specs.Lines.{slaveLines}
+use Rattle.frames.specs.Master.{dataBit}
 use Rattle.serial.specs.Slave.{slaveStep, motorolaSlave, motorolaSelect, motorolaEdges, captureEdge, driveEdge, motorolaClock}
 use Rattle.serial.specs.Pair.{wire}
 use Rattle.serial.proofs.Cycles.{waits-cons}
@@ -26,8 +26,8 @@ use Rattle.serial.proofs.Exchange.Moves.{Queues, inFrame, shown, hidden
 use Rattle.serial.proofs.Exchange.Motorola.{sm, ss, step, chosen, drivenAt, filledAt, received, lines-at, in-word, calm, ended, word-run}
 use Rattle.serial.proofs.Exchange.Wiring.{front, holding, lastOf, Exchange}
 use Rattle.serial.proofs.Exchange.Ends.{idle, opened, begin-acts, finalAt, ever}
-use Rattle.serial.specs.declared.engine.Shift.{Shift}
-use Rattle.serial.specs.declared.slots.Event.the-variants.{Drive, Chain}
+use Rattle.frames.specs.declared.engine.Shift.{Shift}
+use Rattle.frames.specs.declared.slots.Event.the-variants.{Drive, Chain}
 
 -- the master has taken its word, the slave is selected
 abbrev selectedAt : ℕ → Queues → Two

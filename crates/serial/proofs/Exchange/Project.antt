@@ -11,8 +11,8 @@ use Rattle.registers.specs.Settings.{settingsOf, enabledOf}
 use Rattle.registers.specs.Transfer.{rest, waitingOf, nextWord, takeWord, receiveWord, endCycle}
 use Rattle.registers.specs.declared.settings.Format.{Format}
 use Rattle.registers.specs.declared.settings.Settings.{Settings}
-use Rattle.serial.specs.Lines.{masterLines, slaveLines, linesOf}
-use Rattle.serial.specs.Master.{masterStep}
+use Rattle.frames.specs.Lines.{masterLines, slaveLines, linesOf}
+use Rattle.frames.specs.Master.{masterStep}
 use Rattle.serial.specs.Slave.{slaveStep, slaveEnd}
 use Rattle.serial.specs.Cycle.{DeviceModel, stepOf, endOf, takeIf, receiveIf, deviceStep, completedOf, cycleOf}
 use Rattle.serial.specs.Pair.{wire, PairModel, pairCycle}
@@ -23,10 +23,10 @@ use Rattle.serial.proofs.Exchange.Core.{Receiver, Side, Pair, plain, pu
 use Rattle.serial.proofs.Exchange.Turn.{given, turns, turnPins, turnLines, turn-twice, turn-pins-twice, step-plain, end-plain, lines-plain}
 use Rattle.serial.proofs.Exchange.Wiring.{Wiring}
 use Rattle.serial.specs.declared.History.{History}
-use Rattle.serial.specs.declared.engine.Engine.{Engine}
-use Rattle.serial.specs.declared.engine.Step.{Step}
-use Rattle.serial.specs.declared.lines.Lines.{Lines}
-use Rattle.serial.specs.declared.lines.Pins.{Pins}
+use Rattle.frames.specs.declared.engine.Engine.{Engine}
+use Rattle.frames.specs.declared.engine.Step.{Step}
+use Rattle.frames.specs.declared.lines.Lines.{Lines}
+use Rattle.frames.specs.declared.lines.Pins.{Pins}
 
 -- The registers -----------------------------------------------------------------------------------------------------------
 

@@ -9,14 +9,14 @@ use Rattle.registers.proofs.Picks.{pick-both}
 use Rattle.registers.specs.declared.settings.Format.{Format}
 use Rattle.registers.specs.declared.settings.Format.the-variants.{Motorola, Ti, Microwire, Reserved}
 use Rattle.registers.specs.declared.settings.Settings.{Settings}
-use Rattle.serial.specs.Engine.{noWord}
-use Rattle.serial.specs.Lines.{slaveLines}
+use Rattle.frames.specs.Engine.{noWord}
+use Rattle.frames.specs.Lines.{slaveLines}
 use Rattle.serial.specs.Slave.{slaveStep, slaveEnd, endedOn, afterTaking, motorolaSlave, motorolaSelect, motorolaEdges, motorolaClock, captureEdge, driveEdge, tiSlave}
 use Rattle.serial.proofs.Exchange.Core.{Side, withEngine, moved, plain, slaveSide}
 use Rattle.serial.proofs.Exchange.Settle.{Lawful}
-use Rattle.serial.specs.declared.engine.Engine.{Engine}
-use Rattle.serial.specs.declared.engine.Step.{Step}
-use Rattle.serial.specs.declared.lines.Pins.{Pins}
+use Rattle.frames.specs.declared.engine.Engine.{Engine}
+use Rattle.frames.specs.declared.engine.Step.{Step}
+use Rattle.frames.specs.declared.lines.Pins.{Pins}
 
 ended-frame : (f : Format) (e : Engine) → endedOn f e .frame ≡ false
 ended-frame Motorola e = refl

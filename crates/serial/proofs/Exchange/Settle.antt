@@ -5,16 +5,16 @@ use mathlib.Core.Bool.{Bool}
 use native.Mathlib.Omega.{arith}
 use lib.ListN.{getD}
 use Rattle.registers.specs.declared.settings.Settings.{Settings}
-use Rattle.serial.specs.Engine.{noWord}
-use Rattle.serial.specs.Lines.{masterLines, masterTxd}
-use Rattle.serial.specs.Master.{masterEnd}
+use Rattle.frames.specs.Engine.{noWord}
+use Rattle.frames.specs.Lines.{masterLines, masterTxd}
+use Rattle.frames.specs.Master.{masterEnd}
 use Rattle.serial.specs.Pair.{wire}
 use Rattle.serial.proofs.Cycles.{waits}
 use Rattle.serial.proofs.WithinSlot.{step-within, elapsedAt, step-elapsed, Live, nextSlot, afterCycles, end-elapsed, after-within, after-last, next-elapsed}
 use Rattle.serial.proofs.Trace.{Trace, none, more, trace-count, trace-end, trace-then}
 use Rattle.serial.proofs.Exchange.Core.{Side, Pair, withEngine, moved, acted, masterSide, slaveSide, coreCycle}
-use Rattle.serial.specs.declared.engine.Step.{Step}
-use Rattle.serial.specs.declared.lines.Pins.{Pins}
+use Rattle.frames.specs.declared.engine.Step.{Step}
+use Rattle.frames.specs.declared.lines.Pins.{Pins}
 
 -- The master within a slot ---------------------------------------------------------------------------------------------
 

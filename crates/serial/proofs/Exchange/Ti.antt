@@ -12,11 +12,11 @@ use Rattle.registers.specs.Time.{cycles, slots}
 use Rattle.registers.specs.Transfer.{rest}
 use Rattle.registers.specs.declared.settings.Format.the-variants.{Ti}
 use Rattle.registers.specs.declared.settings.Settings.{Settings}
-use Rattle.serial.specs.Bits.{bitOf, cut}
-use Rattle.serial.specs.Engine.{cleared, clearShift, withShift, noWord, begun, loaded, started, driven, captureStep}
-use Rattle.serial.specs.Slots.{eventOf, tiEvent, lastSlot, widthOf, tiLevels, levelsOf}
-use Rattle.serial.specs.Lines.{masterLines, slaveLines, frameLines, masterTxd}
-use Rattle.serial.specs.Master.{act, masterStep, masterEnd, acting, resting, dataBit, joinedShift}
+use Rattle.frames.specs.Bits.{bitOf, cut}
+use Rattle.frames.specs.Engine.{cleared, clearShift, withShift, noWord, begun, loaded, started, driven, captureStep}
+use Rattle.frames.specs.Slots.{eventOf, tiEvent, lastSlot, widthOf, tiLevels, levelsOf}
+use Rattle.frames.specs.Lines.{masterLines, slaveLines, frameLines, masterTxd}
+use Rattle.frames.specs.Master.{act, masterStep, masterEnd, acting, resting, dataBit, joinedShift}
 use Rattle.serial.specs.Slave.{withMark, slaveStep, slaveEnd, tiSlave, tiFalls, tiRises}
 use Rattle.serial.specs.Pair.{wire}
 use Rattle.serial.proofs.Cycles.{waits, waits-cons}
@@ -30,13 +30,13 @@ use Rattle.serial.proofs.Events.{lowAt, ti-drive, ti-capture, ti-last, 
 use Rattle.serial.proofs.Exchange.Moves.{Queues, shown, hidden, acted-by, next-in, capture-in, completed, capture-last, slave-by, Slot, slot-of, LiveSlot, slot-then}
 use Rattle.serial.proofs.Exchange.Motorola.{received, next-bit, last-bit}
 use Rattle.serial.proofs.Exchange.Wiring.{front, holding, Holds, starts, lastOf, Exchange}
-use Rattle.serial.specs.declared.engine.Engine.{Engine}
-use Rattle.serial.specs.declared.engine.Shift.{Shift}
-use Rattle.serial.specs.declared.engine.Step.{Step}
-use Rattle.serial.specs.declared.lines.Lines.{Lines}
-use Rattle.serial.specs.declared.lines.Pins.{Pins}
-use Rattle.serial.specs.declared.slots.Levels.{Levels}
-use Rattle.serial.specs.declared.slots.Event.the-variants.{Drive, First, Capture, JoinDrive, JoinCapture}
+use Rattle.frames.specs.declared.engine.Engine.{Engine}
+use Rattle.frames.specs.declared.engine.Shift.{Shift}
+use Rattle.frames.specs.declared.engine.Step.{Step}
+use Rattle.frames.specs.declared.lines.Lines.{Lines}
+use Rattle.frames.specs.declared.lines.Pins.{Pins}
+use Rattle.frames.specs.declared.slots.Levels.{Levels}
+use Rattle.frames.specs.declared.slots.Event.the-variants.{Drive, First, Capture, JoinDrive, JoinCapture}
 
 -- The lines ------------------------------------------------------------------------------------------------------------
 

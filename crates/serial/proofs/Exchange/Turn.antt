@@ -8,20 +8,20 @@ use Rattle.registers.specs.Choose.{pick}
 use Rattle.registers.specs.declared.settings.Format.{Format}
 use Rattle.registers.specs.declared.settings.Format.the-variants.{Motorola, Ti, Microwire, Reserved}
 use Rattle.registers.specs.declared.settings.Settings.{Settings}
-use Rattle.serial.specs.Engine.{noWord}
-use Rattle.serial.specs.Slots.{eventOf, lastSlot, widthOf, levelsOf}
-use Rattle.serial.specs.Lines.{differ, idleOn, clockOn, joinedTo, masterLines, frameLines, masterTxd}
-use Rattle.serial.specs.Master.{act, masterStep, masterEnd, ticked, acting, dataBit}
+use Rattle.frames.specs.Engine.{noWord}
+use Rattle.frames.specs.Slots.{eventOf, lastSlot, widthOf, levelsOf}
+use Rattle.frames.specs.Lines.{differ, idleOn, clockOn, joinedTo, masterLines, frameLines, masterTxd}
+use Rattle.frames.specs.Master.{act, masterStep, masterEnd, ticked, acting, dataBit}
 use Rattle.serial.specs.Slave.{slaveStep, motorolaSlave, motorolaSelect, motorolaEdges, motorolaClock, captureEdge, driveEdge, tiSlave, tiFalls, tiRises}
 use Rattle.serial.specs.Pair.{wire}
 use Rattle.serial.proofs.Exchange.Core.{plain}
-use Rattle.serial.specs.declared.engine.Engine.{Engine}
-use Rattle.serial.specs.declared.engine.Step.{Step}
-use Rattle.serial.specs.declared.lines.Lines.{Lines}
-use Rattle.serial.specs.declared.lines.Pins.{Pins}
-use Rattle.serial.specs.declared.slots.Event.{Event}
-use Rattle.serial.specs.declared.slots.Event.the-variants.{Begin, BeginDrive, Drive, First, Capture, Chain, JoinDrive, JoinCapture, Quiet, Release, Pause}
-use Rattle.serial.specs.declared.slots.Levels.{Levels}
+use Rattle.frames.specs.declared.engine.Engine.{Engine}
+use Rattle.frames.specs.declared.engine.Step.{Step}
+use Rattle.frames.specs.declared.lines.Lines.{Lines}
+use Rattle.frames.specs.declared.lines.Pins.{Pins}
+use Rattle.frames.specs.declared.slots.Event.{Event}
+use Rattle.frames.specs.declared.slots.Event.the-variants.{Begin, BeginDrive, Drive, First, Capture, Chain, JoinDrive, JoinCapture, Quiet, Release, Pause}
+use Rattle.frames.specs.declared.slots.Levels.{Levels}
 
 -- Settings with everything named: SPO p, SOD o.
 abbrev pub given : Format → Bool → Bool → ℕ → ℕ → Bool → Bool → Settings

@@ -9,11 +9,11 @@ use Rattle.registers.specs.Transfer.{rest}
 use Rattle.registers.specs.declared.settings.Format.{Format}
 use Rattle.registers.specs.declared.settings.Format.the-variants.{Motorola, Ti, Microwire, Reserved}
 use Rattle.registers.specs.declared.settings.Settings.{Settings}
-use Rattle.serial.specs.Bits.{cut}
-use Rattle.serial.specs.Engine.{cleared, noWord}
-use Rattle.serial.specs.Slots.{widthOf, captureWidth}
-use Rattle.serial.specs.Lines.{idleOn, showsOn, masterLines, masterTxd, slaveLines}
-use Rattle.serial.specs.Master.{masterStep, masterEnd, acting, resting}
+use Rattle.frames.specs.Bits.{cut}
+use Rattle.frames.specs.Engine.{cleared, noWord}
+use Rattle.frames.specs.Slots.{widthOf, captureWidth}
+use Rattle.frames.specs.Lines.{idleOn, showsOn, masterLines, masterTxd, slaveLines}
+use Rattle.frames.specs.Master.{masterStep, masterEnd, acting, resting}
 use Rattle.serial.specs.Slave.{slaveStep, slaveEnd}
 use Rattle.serial.specs.Pair.{wire}
 use Rattle.serial.specs.Demand3.{busyFor}
@@ -22,7 +22,7 @@ use Rattle.serial.proofs.Exchange.Core.{Receiver, Side, Pair, plain, pu
 use Rattle.serial.proofs.Exchange.Settle.{Two, Lawful, Settled, slotStep, rested, mk}
 use Rattle.serial.proofs.Exchange.Moves.{Queues, hidden, slave-by, LiveSlot}
 use Rattle.serial.proofs.Exchange.Turn.{given, Turned, idle-turned}
-use Rattle.serial.specs.declared.lines.Lines.{Lines}
+use Rattle.frames.specs.declared.lines.Lines.{Lines}
 
 -- The words of a load ------------------------------------------------------------------------------------------------
 
