@@ -18,7 +18,7 @@ use Rattle.device_record.specs.Record.{encoded, decode, soundBytes}
 use Rattle.device_record.proofs.RoundTrip.{sound-encode, sound-decode, fits-decode}
 use Rattle.serial.proofs.Accesses.{read-most, write-most}
 use Rattle.device_record.specs.Run.{afterBytes, inputsFit, runRefusal}
-use Rattle.device_record.specs.Calls.{leftBy, resetRefusal, resetLeft, recordRefusal, readCall, readLeft, writeCall, writeLeft, runCount, runLeft, pairRefusal, pairAfter, pairLeft, Reached}
+use Rattle.device_record.specs.Calls.{leftBy, resetRefusal, resetLeft, recordRefusal, readCall, readLeft, writeCall, writeLeft, runCount, runLeft, pairRefusal, pairAfter, pairLeft, Reached, NeverUnsound}
 use Rattle.device_record.specs.declared.run.Stop.{Stop}
 use Rattle.serial.specs.Pair.{wire, PairModel, pairCycle, pairRun}
 
@@ -112,7 +112,7 @@ module _ (one two : List ℕ) (n : ℕ) where
       go true s = left-sound (pairRefusal one two) (pairAfter one two n .second) two (both-good s t .1) t
       go false s = rw (pair-refused one two (rw s)) t
 
-pub reached-sound : {bytes : List ℕ} → Reached bytes → soundBytes bytes ≡ true
+reached-sound : {bytes : List ℕ} → Reached bytes → soundBytes bytes ≡ true
 reached-sound (Reached.reset b e) = reset-makes-sound b e
 reached-sound (Reached.again b h) = reset-keeps-sound b (reached-sound h)
 reached-sound (Reached.read b o h) = read-keeps-sound b o (reached-sound h)
@@ -130,7 +130,7 @@ module _ (bytes : List ℕ) (h : Reached bytes) where
   reached-record true e = rw (e, reached-sound h)
   reached-record false e = rw e
 
-  pub reached-read : (o : ℕ) → refusalOf (readCall bytes o) ≡ 9 → ⊥
+  reached-read : (o : ℕ) → refusalOf (readCall bytes o) ≡ 9 → ⊥
   unfolding readCall
   reached-read o e = go (eqb (length bytes) 128) refl
     where
@@ -138,7 +138,7 @@ module _ (bytes : List ℕ) (h : Reached bytes) where
       go true k = omega (arith, read-most (decode bytes) o, rw (reached-record true k) at e)
       go false k = omega (arith, rw (reached-record false k) at e)
 
-  pub reached-write : (o v : ℕ) → writeCall bytes o v ≡ 9 → ⊥
+  reached-write : (o v : ℕ) → writeCall bytes o v ≡ 9 → ⊥
   unfolding writeCall
   reached-write o v e = go (eqb (length bytes) 128) refl
     where
@@ -146,7 +146,7 @@ module _ (bytes : List ℕ) (h : Reached bytes) where
       go true k = omega (arith, write-most (decode bytes) o v, rw (reached-record true k) at e)
       go false k = omega (arith, rw (reached-record false k) at e)
 
-  pub reached-run : (ins outs : List ℕ) → runRefusal bytes ins outs ≡ 9 → ⊥
+  reached-run : (ins outs : List ℕ) → runRefusal bytes ins outs ≡ 9 → ⊥
   unfolding runRefusal
   reached-run ins outs e = go (eqb (length bytes) 128) (eqb (length ins) (length outs)) (inputsFit ins) (rw (reached-sound h) at e)
     where
@@ -157,7 +157,7 @@ module _ (bytes : List ℕ) (h : Reached bytes) where
       go false u v z = omega arith
 
 -- Nor does a pair run of two such records.
-pub reached-pair : (one two : List ℕ) → Reached one → Reached two → pairRefusal one two ≡ 9 → ⊥
+reached-pair : (one two : List ℕ) → Reached one → Reached two → pairRefusal one two ≡ 9 → ⊥
 unfolding pairRefusal
 reached-pair one two h k e = go (eqb (length one) 128) (eqb (length two) 128) (rw (reached-sound h, reached-sound k) at e)
   where
@@ -165,3 +165,13 @@ reached-pair one two h k e = go (eqb (length one) 128) (eqb (length two) 128) (r
     go true true z = omega arith
     go true false z = omega arith
     go false u z = omega arith
+
+pub never-unsound : NeverUnsound
+never-unsound =
+    record {
+      sound = λ bytes h. reached-sound h;
+      reads = λ bytes o h. reached-read bytes h o;
+      writes = λ bytes o v h. reached-write bytes h o v;
+      runs = λ bytes ins outs h. reached-run bytes h ins outs;
+      pairs = reached-pair;
+    }

@@ -13,14 +13,13 @@ use Rattle.registers.specs.declared.offsets.Register.the-variants.{Dr}
 use Rattle.registers.specs.declared.access.Answer.the-variants.{Refused}
 use Rattle.registers.proofs.Picks.{pick-both}
 use Rattle.serial.specs.Access.{readAnswerOf, readDevice}
-use Rattle.serial.specs.Pair.{pairRun}
 use Rattle.serial.specs.Demand3.{Step, cyclesIn}
 use Rattle.serial.specs.Demand3.Which.{master, slave}
 use Rattle.serial.specs.Demand3.Step.{read, write}
 use Rattle.serial.proofs.Accesses.{read-other-same}
 use Rattle.device_record.specs.Record.{encoded, decode, soundBytes}
 use Rattle.device_record.specs.Calls.{recordRefusal, readCall, readLeft, Records}
-use Rattle.device_record.specs.Demand3.{devicesOf, runBytes, playBytes, playsBytes, SoundRecords, ExchangedRecords, Polls}
+use Rattle.device_record.specs.Demand3.{devicesOf, runBytes, playBytes, playsBytes, SoundRecords, Polls, PollsExchanged}
 use Rattle.device_record.proofs.RoundTrip.{encode-decode}
 use Rattle.device_record.proofs.Demand3.{run-is-cycles}
 
@@ -56,6 +55,6 @@ polls-cycles (write d o v ∷ xs) r k = absurd k
 pub polls-run : (xs : List Step) (r : Records) → SoundRecords r → Polls xs → playsBytes xs r ≡ runBytes (cyclesIn xs) r
 polls-run xs r s k = polls-cycles xs r k ∙ sym (run-is-cycles (cyclesIn xs) r s)
 
--- So the claim of demand 3 is about such a host too: after the master's enabling it has the devices that the claim speaks of.
-pub polls-exchanged : (xs : List Step) (r : Records) → ExchangedRecords r → Polls xs → devicesOf (playsBytes xs r) ≡ pairRun (cyclesIn xs) (devicesOf r)
+-- So the claim of demand 3 is about such a host too.
+pub polls-exchanged : PollsExchanged
 polls-exchanged xs r e k = ap devicesOf (polls-run xs r (e .sound) k) ∙ e .after (cyclesIn xs)

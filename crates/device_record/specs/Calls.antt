@@ -1,7 +1,7 @@
 -- What each call on records answers, and what it leaves in the bytes that are lent to it. A refused call leaves them all as they were.
 use Prim.Native.Nat.{ℕ}
 use mathlib.Core.Path.{_≡_}
-use mathlib.Core.Bool.{Bool, not, _||_}
+use mathlib.Core.Bool.{Bool, true, not, _||_}
 use mathlib.Core.List.{List}
 use lib.ListN.{length, take}
 use lib.Dec.{eqb}
@@ -126,3 +126,12 @@ pub data Reached : List ℕ → Type 0 where
   run : (stop : Stop) (bytes ins outs : List ℕ) → Reached bytes → Reached (runLeft stop bytes ins outs)
   first : (one two : List ℕ) (n : ℕ) → Reached one → Reached (pairLeft one two n .one)
   second : (one two : List ℕ) (n : ℕ) → Reached two → Reached (pairLeft one two n .two)
+
+-- Such a record is sound, and no call on it is refused with 9; nor is a pair run of two of them.
+pub record NeverUnsound : Type 0 where
+  pub sound : (bytes : List ℕ) → Reached bytes → soundBytes bytes ≡ true
+  pub reads : (bytes : List ℕ) (o : ℕ) → Reached bytes → refusalOf (readCall bytes o) ≡ unsound → ⊥
+  pub writes : (bytes : List ℕ) (o v : ℕ) → Reached bytes → writeCall bytes o v ≡ unsound → ⊥
+  -- with either stop
+  pub runs : (bytes ins outs : List ℕ) → Reached bytes → runRefusal bytes ins outs ≡ unsound → ⊥
+  pub pairs : (one two : List ℕ) → Reached one → Reached two → pairRefusal one two ≡ unsound → ⊥

@@ -1,4 +1,4 @@
--- Demand 3 over the bytes of records, as a statement: steps played by what the calls leave. proofs/Demand3.antt proves both parts, proofs/Swap.antt the first one for records in the other order.
+-- Demand 3 over the bytes of records, as a statement: steps played by what the calls leave. proofs/Demand3.antt proves both parts, proofs/Swap.antt the first one for records in the other order, proofs/Polling.antt the last statement.
 use Prim.Native.Nat.{ℕ, _≤_}
 use mathlib.Core.Path.{_≡_}
 use mathlib.Core.Bool.{true}
@@ -106,3 +106,8 @@ Polls [] = Unit {0}
 Polls (cycle ∷ xs) = Polls xs
 Polls (read d o ∷ xs) = (registerOf o ≡ Dr → ⊥) × Polls xs
 Polls (write d o v ∷ xs) = ⊥
+
+-- After the master's enabling such a host has the devices that the claim speaks of: those of as many pair cycles as its steps have.
+abbrev pub PollsExchanged : Type 0
+PollsExchanged =
+    (xs : List Step) (r : Records) → ExchangedRecords r → Polls xs → devicesOf (playsBytes xs r) ≡ pairRun (cyclesIn xs) (devicesOf r)
