@@ -14,11 +14,12 @@ static void check(uint64_t refusal)
 int main(void)
 {
     uint8_t record[PL022_RECORD_LENGTH], input[100] = {0}, output[100];
+    uint32_t cr0 = PL022_CR0_FRF_MOTOROLA | 7u << PL022_CR0_DSS_SHIFT; /* words of 8 bits */
     check(pl022_reset(record, sizeof record));
-    check(pl022_write(record, sizeof record, PL022_CPSR, 2));   /* with SCR 0 a slot is one cycle */
-    check(pl022_write(record, sizeof record, PL022_CR0, 0x07)); /* Motorola, 8 bits */
-    check(pl022_write(record, sizeof record, PL022_DR, 0xA5));  /* a word to send */
-    check(pl022_write(record, sizeof record, PL022_CR1, 0x3));  /* loopback, on */
+    check(pl022_write(record, sizeof record, PL022_CPSR, 2)); /* with SCR 0 a slot is one cycle */
+    check(pl022_write(record, sizeof record, PL022_CR0, cr0));
+    check(pl022_write(record, sizeof record, PL022_DR, 0xA5)); /* a word to send */
+    check(pl022_write(record, sizeof record, PL022_CR1, PL022_CR1_LBM | PL022_CR1_SSE)); /* loopback, on */
 
     struct pl022_count run = pl022_run_to_idle(record, sizeof record, input, sizeof input, output, sizeof output);
     check(run.refusal);

@@ -15,13 +15,19 @@ static const struct {
     unsigned roles;
     unsigned refusals;
 } facts[CALLS] = {
-    [CALL_RESET] = {"reset", ROLE(ROLE_RECORD), NUMBER(0) | NUMBER(10)},
-    [CALL_READ] = {"read", ROLE(ROLE_RECORD), NUMBERS(0, 3) | NUMBERS(8, 10)},
-    [CALL_WRITE] = {"write", ROLE(ROLE_RECORD), NUMBERS(0, 7) | NUMBERS(9, 10)},
-    [CALL_RUN] = {"run", ROLE(ROLE_RECORD) | LINES, NUMBER(0) | NUMBERS(9, 12)},
-    [CALL_RUN_TO_IDLE] = {"run_to_idle", ROLE(ROLE_RECORD) | LINES, NUMBER(0) | NUMBERS(9, 12)},
+    [CALL_RESET] = {"reset", ROLE(ROLE_RECORD), NUMBER(PL022_DONE) | NUMBER(PL022_WRONG_LENGTH)},
+    [CALL_READ] = {"read", ROLE(ROLE_RECORD),
+                   NUMBERS(PL022_DONE, PL022_WRONG_ACCESS)
+                       | NUMBERS(PL022_QUEUE_EMPTY, PL022_WRONG_LENGTH)},
+    [CALL_WRITE] = {"write", ROLE(ROLE_RECORD),
+                    NUMBERS(PL022_DONE, PL022_QUEUE_FULL)
+                        | NUMBERS(PL022_UNSOUND, PL022_WRONG_LENGTH)},
+    [CALL_RUN] = {"run", ROLE(ROLE_RECORD) | LINES,
+                  NUMBER(PL022_DONE) | NUMBERS(PL022_UNSOUND, PL022_BAD_INPUT)},
+    [CALL_RUN_TO_IDLE] = {"run_to_idle", ROLE(ROLE_RECORD) | LINES,
+                          NUMBER(PL022_DONE) | NUMBERS(PL022_UNSOUND, PL022_BAD_INPUT)},
     [CALL_PAIR_RUN] = {"pair_run", ROLE(ROLE_RECORD) | ROLE(ROLE_SECOND),
-                       NUMBER(0) | NUMBERS(9, 10)},
+                       NUMBER(PL022_DONE) | NUMBERS(PL022_UNSOUND, PL022_WRONG_LENGTH)},
 };
 
 const char *call_name(enum call call)

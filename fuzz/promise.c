@@ -126,7 +126,7 @@ static uint32_t refusal_by_lines(const struct request *request)
         return PL022_LINES_DIFFER;
     }
     for (size_t i = 0; i < input->length; i++) {
-        if (input->data[i] > 7) {
+        if (input->data[i] > PL022_INPUT_MASK) {
             return PL022_BAD_INPUT;
         }
     }
@@ -217,7 +217,7 @@ static void check_run(const struct request *request, const struct outcome *outco
 
     report_unless(cycles <= before->length, "the count passes the input's length");
     for (size_t i = 0; i < cycles; i++) {
-        report_unless(after->data[i] <= 15, "an output byte is above 15");
+        report_unless(after->data[i] <= PL022_OUTPUT_MASK, "an output byte is above 15");
     }
     report_unless(memcmp(after->data + cycles, before->data + cycles, after->length - cycles) == 0,
                   "an output byte changed from the count on");

@@ -201,7 +201,8 @@ static void spoil(uint8_t *input, size_t length)
     uint32_t places[] = {0, last, draw_between(0, last)};
     uint32_t place = places[draw_below(3)];
 
-    input[place] = (uint8_t)(draw_one_in(2) ? 8 : draw_between(8, 255));
+    input[place] = (uint8_t)(draw_one_in(2) ? PL022_INPUT_MASK + 1
+                                            : draw_between(PL022_INPUT_MASK + 1, 255));
     if (draw_one_in(3)) {
         draw_bytes(input, length);
     }

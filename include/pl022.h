@@ -14,7 +14,8 @@
  * fall between cycles, so a loop that polls a register must run cycles as well. The
  * interrupt line is HIGH exactly while MIS is not 0.
  *
- * Line bytes. A run takes an input byte and gives an output byte for each cycle:
+ * Line bytes. A run or run to idle takes an input byte and gives an output byte for
+ * each cycle:
  *
  *     input    CLK 1, FSS 2, RXD 4             0 to 7
  *     output   CLK 1, FSS 2, TXD 4, nSSPOE 8   0 to 15
@@ -28,8 +29,8 @@
  *
  *     number                    given exactly when                       by
  *     10 PL022_WRONG_LENGTH     the record is not 128 bytes              all
- *     11 PL022_LINES_DIFFER     input_len and output_len differ          runs
- *     12 PL022_BAD_INPUT        an input byte is above 7                 runs
+ *     11 PL022_LINES_DIFFER     input_len and output_len differ          run, run to idle
+ *     12 PL022_BAD_INPUT        an input byte is above 7                 run, run to idle
  *      9 PL022_UNSOUND          the record is not sound                  all but reset
  *      1 PL022_BAD_OFFSET       offset not a multiple of 4, or 0x1000
  *                               and up                                   read, write
@@ -182,7 +183,7 @@ enum pl022_record_offset {
     PL022_RECORD_CAPTURED = 15,         /* bits of the word being received so far */
     PL022_RECORD_SLOT = 16,             /* master: slot number */
     PL022_RECORD_HELD = 17,             /* data level held on TXD, 0 or 1 */
-    PL022_RECORD_SLOT_CYCLES = 18,      /* 2 bytes: cycles gone in the slot */
+    PL022_RECORD_SLOT_CYCLES = 18,      /* 2 bytes: cycles elapsed in the slot */
     PL022_RECORD_TX_WORD = 20,          /* 2 bytes: word being sent */
     PL022_RECORD_RX_WORD = 22,          /* 2 bytes: word being received */
     PL022_RECORD_PINS = 24,             /* input byte of the last cycle run */

@@ -28,6 +28,15 @@ enum line_number {
     LINE_COUNT
 };
 
+_Static_assert(1 << LINE_CLK == PL022_CLK && 1 << LINE_FSS == PL022_FSS
+                   && 1 << LINE_TXD == PL022_TXD && 1 << LINE_NSSPOE == PL022_NSSPOE,
+               "the low bits of a level byte are an output byte");
+_Static_assert(1 << LINE_CLK_IN == PL022_CLK << LINE_CLK_IN
+                   && 1 << LINE_FSS_IN == PL022_FSS << LINE_CLK_IN
+                   && 1 << LINE_RXD == PL022_RXD << LINE_CLK_IN
+                   && LINE_CLK_IN > LINE_NSSPOE,
+               "the bits from LINE_CLK_IN on are an input byte");
+
 struct recording {
     uint8_t *levels; /* a level byte for each cycle */
     size_t capacity;

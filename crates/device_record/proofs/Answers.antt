@@ -9,14 +9,13 @@ use lib.ListN.{length, take}
 use lib.Seq.{take-length}
 use borrow.Author.Tests.{eq-eqb, ne-eqb, eqb-true}
 use Rattle.registers.specs.Choose.{pick}
-use Rattle.registers.specs.Refusals.{refusalOf}
 use Rattle.registers.specs.declared.access.Answer.{Answer}
 use Rattle.registers.specs.declared.access.Answer.the-variants.{Word, Refused}
 use Rattle.serial.specs.Cycle.{DeviceModel, deviceOf, resetDevice}
 use Rattle.serial.specs.Access.{readAnswerOf, readDevice, writeRefusalOf, writeDevice, Read, Write}
 use Rattle.serial.proofs.Accesses.{refused-read}
 use Rattle.device_record.specs.Record.{encoded, encode, decode, soundBytes}
-use Rattle.device_record.specs.Run.{afterBytes, outputs, inputsFit, stopsOn, countUntil, written, served, RunUntil, runRefusal}
+use Rattle.device_record.specs.Run.{afterBytes, outputs, inputsFit, stopsOn, countUntil, written, RunUntil, runRefusal}
 use Rattle.device_record.specs.Calls.{leftBy, resetRefusal, recordRefusal, readCall, writeCall, runCount, runLeft, runOutput, ResetCall, ReadCall, WriteCall, RunCall, pairRefusal, pairAfter, PairCall}
 use Rattle.serial.specs.Pair.{PairModel, pairRun, pairOf}
 use Rattle.serial.specs.declared.pair.Wired.{Wired}

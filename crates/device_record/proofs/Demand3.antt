@@ -1,7 +1,7 @@
 -- Demand 3 over records: playing steps on the bytes of two records, by what the C calls leave, is playing them on the devices that the bytes stand for.
-use Prim.Native.Nat.{ℕ, zero, suc, _≤_}
+use Prim.Native.Nat.{ℕ, zero, suc}
 use mathlib.Core.Path.{_≡_, refl, sym, ap, ap₂, _∙_, subst}
-use mathlib.Core.Bool.{Bool, true, false, not, _&&_, true≢false}
+use mathlib.Core.Bool.{Bool, true, false, true≢false}
 use mathlib.Core.List.{List, [], _∷_, _++_, map}
 use lib.Dec.{eqb}
 use lib.ListN.{length, replicate}
@@ -9,7 +9,7 @@ use borrow.Author.Tests.{eq-eqb}
 use Rattle.registers.specs.Choose.{pick}
 use Rattle.registers.specs.Refusals.{refusalOf, firstOf}
 use Rattle.registers.specs.declared.access.Answer.the-variants.{Refused}
-use Rattle.serial.specs.Cycle.{DeviceModel, cycleOf}
+use Rattle.serial.specs.Cycle.{DeviceModel}
 use Rattle.serial.specs.Access.{readAnswerOf, readDevice, writeRefusalOf, writeDevice}
 use Rattle.serial.proofs.Accesses.{read-same, write-same}
 use Rattle.serial.specs.Sound.{soundDevice, deviceFits}
@@ -20,14 +20,13 @@ use Rattle.serial.specs.Pair.{PairModel, pairCycle, pairRun}
 use Rattle.serial.proofs.Exchange.Claim.{demand3}
 use Rattle.serial.proofs.Drawing.Enabled.{enabling-injective}
 use Rattle.frames.specs.Slots.{widthOf}
-use Rattle.registers.specs.declared.settings.Settings.{Settings}
-use Rattle.frames.specs.Lines.{pinsOf, byteOf}
+use Rattle.frames.specs.Lines.{pinsOf}
 use Rattle.device_record.specs.Run.{outputs}
 use Rattle.device_record.proofs.Histories.{good-decode, good-pair-run}
 use Rattle.device_record.specs.Calls.{leftBy, recordRefusal, readCall, readLeft, writeCall, writeLeft, pairRefusal, pairAfter, Records}
-use Rattle.device_record.specs.Demand3.{devicesOf, runBytes, playBytes, playsBytes, SoundRecords, steps, ExchangedRecords, Demand3Records, LastSentenceRecords}
+use Rattle.device_record.specs.Demand3.{devicesOf, runBytes, playBytes, playsBytes, SoundRecords, steps, Demand3Records, LastSentenceRecords}
 use Rattle.frames.specs.Bits.{cut}
-use Rattle.serial.specs.Demand3.{Step, play, plays, cyclesIn, Stays, Start, Exchanged, slaveOn, masterOn, enables, Enabling, WholeLoad}
+use Rattle.serial.specs.Demand3.{Step, play, plays, Exchanged, slaveEnabled, masterEnabled, WholeLoad}
 use Rattle.serial.specs.Demand3.Which.{master, slave}
 use Rattle.serial.specs.Demand3.Step.{read, write}
 
@@ -114,8 +113,8 @@ plays-append : (xs ys : List Step) (p : PairModel) → plays (xs ++ ys) p ≡ pl
 plays-append [] ys p = refl
 plays-append (x ∷ xs) ys p = plays-append xs ys (play x p)
 
-steps-lead : (pre mid : List Step) (p : PairModel) → plays (steps pre mid p) p ≡ masterOn pre mid p
-steps-lead pre mid p = plays-append pre _ p ∙ plays-append mid _ (slaveOn pre p)
+steps-lead : (pre mid : List Step) (p : PairModel) → plays (steps pre mid p) p ≡ masterEnabled pre mid p
+steps-lead pre mid p = plays-append pre _ p ∙ plays-append mid _ (slaveEnabled pre p)
 
 -- A pair run of n cycles leaves the bytes that n runs of one cycle leave.
 plays-pair-run : (n : ℕ) (p : PairModel) → plays (replicate n Step.cycle) p ≡ pairRun n p

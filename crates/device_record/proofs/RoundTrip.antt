@@ -1,13 +1,13 @@
 -- Laws of a record's bytes: a sound device comes back from its bytes, and sound bytes from their device.
-use Prim.Native.Nat.{ℕ, _+_, _*_, _/_, _%_, _≤_, _<_}
+use Prim.Native.Nat.{ℕ, _+_, _*_, _/_, _%_, _<_}
 use mathlib.Core.Path.{_≡_, refl, sym, _∙_, ap}
 use mathlib.Core.List.{List, [], _∷_, _++_, map}
-use mathlib.Core.Bool.{Bool, true, false, _&&_, _||_}
+use mathlib.Core.Bool.{Bool, true, false, _&&_}
 use native.Mathlib.Omega.{arith}
-use lib.Dec.{eqb, ltb, leb}
+use lib.Dec.{eqb, ltb}
 use lib.ListN.{length, getD, take}
 use mir.Val.{boolByte}
-use borrow.Author.Tests.{eq-eqb, eqb-true, ltb-true, leb-true, lt-ltb}
+use borrow.Author.Tests.{eq-eqb, eqb-true, lt-ltb}
 use Rattle.registers.proofs.Picks.{and-left, and-right, and-both}
 use Rattle.registers.specs.Fields.{fieldsOf, restored, places}
 use Rattle.registers.proofs.RoundTrip.{FileFits, file-fits, model-fields, word-fits, words-fit-take}

@@ -5,17 +5,15 @@ use mathlib.Core.List.{List, [], _∷_, _++_, append-assoc, append-nil}
 use mathlib.Core.Bool.{Bool, true, false, _&&_}
 use native.Mathlib.Omega.{arith}
 use native.Mathlib.Numerals.{add-one}
-use lib.Dec.{leb, eqb}
+use lib.Dec.{leb}
 use borrow.Author.Tests.{eq-eqb, ne-eqb}
 use lib.ListN.{length, getD, take, drop, set, length-set, drop-of-length-le}
 use lib.Seq.{drop-cons, take-suc, set-at, length-take-le, take-length, drop-length}
-use Rattle.registers.specs.Choose.{pick}
 use Rattle.frames.specs.Lines.{pinsOf, byteOf}
 use Rattle.serial.specs.Cycle.{DeviceModel, deviceOf, cycleOf}
 use Rattle.device_record.specs.Run.{afterBytes, outputs, inputsFit, stopsOn, countUntil, written, served, RunUntil}
 use Rattle.device_record.proofs.Bytes.{and-assoc, and-true}
 use Rattle.serial.specs.declared.Device.{Device}
-use Rattle.device_record.specs.declared.run.Ran.{Ran}
 use Rattle.device_record.specs.declared.run.Stop.the-variants.{Never}
 
 -- Input bytes ----------------------------------------------------------------------------------------------------------

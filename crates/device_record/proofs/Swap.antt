@@ -13,8 +13,12 @@ use Rattle.serial.specs.Demand3.Step.{read, write}
 use Rattle.serial.proofs.Swap.{swap-run}
 use Rattle.device_record.specs.Record.{decode, soundBytes}
 use Rattle.device_record.specs.Calls.{leftBy, pairRefusal, pairAfter, pairLeft, Records}
-use Rattle.device_record.specs.Demand3.{devicesOf, playBytes, playsBytes, swappedRecords, steps, playSwapped, playsSwapped, ExchangedSwapped, Demand3Swapped}
+use Rattle.device_record.specs.Demand3.{devicesOf, playBytes, playsBytes, steps, playSwapped, playsSwapped, ExchangedSwapped, Demand3Swapped}
 use Rattle.device_record.proofs.Demand3.{demand3-records}
+
+-- Two records in the other order.
+abbrev swappedRecords : Records → Records
+swappedRecords r = record { one = r .two; two = r .one }
 
 or-swap : (a b : Bool) → (a || b) ≡ (b || a)
 or-swap true true = refl

@@ -1,7 +1,7 @@
 -- What each call on records answers, and what it leaves in the bytes that are lent to it. A refused call leaves them all as they were.
 use Prim.Native.Nat.{ℕ}
 use mathlib.Core.Path.{_≡_}
-use mathlib.Core.Bool.{Bool, true, not, _||_}
+use mathlib.Core.Bool.{true, not, _||_}
 use mathlib.Core.List.{List}
 use lib.ListN.{length, take}
 use lib.Dec.{eqb}
@@ -27,9 +27,11 @@ leftBy refusal d bytes = pick (eqb refusal done) (encoded d) bytes
 unfoldable pub resetRefusal : List ℕ → ℕ
 resetRefusal bytes = pick (not (eqb (length bytes) recordLength)) wrongLength done
 
+-- The record after a reset; a refused one leaves the bytes as they were.
 abbrev pub resetLeft : List ℕ → List ℕ
 resetLeft bytes = leftBy (resetRefusal bytes) resetDevice bytes
 
+-- A reset: its refusal number, and the record after it.
 pub record ResetCall (bytes : List ℕ) (r : ℕ) (bytes′ : List ℕ) : Type 0 where
   pub refusal : r ≡ resetRefusal bytes
   pub left : bytes′ ≡ resetLeft bytes
@@ -47,19 +49,24 @@ recordRefusal bytes =
 unfoldable pub readCall : List ℕ → ℕ → Answer
 readCall bytes o = pick (eqb (recordRefusal bytes) done) (readAnswerOf (decode bytes) o) (Refused (recordRefusal bytes))
 
+-- The record after a read; a refused one leaves the bytes as they were.
 abbrev pub readLeft : List ℕ → ℕ → List ℕ
 readLeft bytes o = leftBy (refusalOf (readCall bytes o)) (readDevice (decode bytes) o) bytes
 
+-- A read: its answer, and the record after it.
 pub record ReadCall (bytes : List ℕ) (o : ℕ) (r : Answer) (bytes′ : List ℕ) : Type 0 where
   pub answer : r ≡ readCall bytes o
   pub left : bytes′ ≡ readLeft bytes o
 
+-- The refusal number of a write: 10, then 9, then the access's own; 0 if it is done.
 unfoldable pub writeCall : List ℕ → ℕ → ℕ → ℕ
 writeCall bytes o v = firstOf (recordRefusal bytes) (writeRefusalOf (decode bytes) o v)
 
+-- The record after a write; a refused one leaves the bytes as they were.
 abbrev pub writeLeft : List ℕ → ℕ → ℕ → List ℕ
 writeLeft bytes o v = leftBy (writeCall bytes o v) (writeDevice (decode bytes) o v) bytes
 
+-- A write: its refusal number, and the record after it.
 pub record WriteCall (bytes : List ℕ) (o v r : ℕ) (bytes′ : List ℕ) : Type 0 where
   pub refusal : r ≡ writeCall bytes o v
   pub left : bytes′ ≡ writeLeft bytes o v
@@ -78,6 +85,7 @@ runLeft stop bytes ins outs = leftBy (runRefusal bytes ins outs) (afterBytes (de
 abbrev pub runOutput : Stop → List ℕ → List ℕ → List ℕ → List ℕ
 runOutput stop bytes ins outs = pick (eqb (runRefusal bytes ins outs) done) (written (decode bytes) (runCount stop bytes ins outs) ins outs) outs
 
+-- A run by a stopping rule: its refusal number and count, the record and the output after it.
 pub record RunCall (stop : Stop) (bytes ins outs : List ℕ) (r : RunAnswer) (bytes′ outs′ : List ℕ) : Type 0 where
   pub refusal : r .refusal ≡ runRefusal bytes ins outs
   pub count : r .count ≡ runCount stop bytes ins outs
@@ -110,6 +118,7 @@ pairLeft one two n =
       two = leftBy (pairRefusal one two) (pairAfter one two n .second) two;
     }
 
+-- A pair run: its refusal number, and both records after it.
 pub record PairCall (one two : List ℕ) (n r : ℕ) (one′ two′ : List ℕ) : Type 0 where
   pub refusal : r ≡ pairRefusal one two
   pub first : one′ ≡ pairLeft one two n .one

@@ -10,7 +10,7 @@ use Rattle.frames.specs.Bits.{cut}
 use Rattle.frames.specs.Lines.{pinsOf}
 use Rattle.frames.specs.Slots.{widthOf}
 use Rattle.serial.specs.Pair.{PairModel, pairRun, swapped}
-use Rattle.serial.specs.Demand3.{Step, plays, cyclesIn, Stays, Start, Exchanged, slaveOn, enables, Enabling, WholeLoad}
+use Rattle.serial.specs.Demand3.{Step, plays, cyclesIn, Stays, Start, Exchanged, slaveEnabled, enables, Enabling, WholeLoad}
 use Rattle.serial.specs.Demand3.Which.{master, slave}
 use Rattle.serial.specs.Demand3.Step.{cycle, read, write}
 use Rattle.device_record.specs.Record.{decode, soundBytes}
@@ -33,17 +33,19 @@ playBytes (read slave o) r = record { one = r .one; two = readLeft (r .two) o }
 playBytes (write master o v) r = record { one = writeLeft (r .one) o v; two = r .two }
 playBytes (write slave o v) r = record { one = r .one; two = writeLeft (r .two) o v }
 
+-- Each step starts from the records that the last one left.
 abbrev pub playsBytes : List Step → Records → Records
 playsBytes [] r = r
 playsBytes (x ∷ xs) r = playsBytes xs (playBytes x r)
 
+-- Both records are sound.
 pub record SoundRecords (r : Records) : Type 0 where
   pub one : soundBytes (r .one) ≡ true
   pub two : soundBytes (r .two) ≡ true
 
 -- The whole list of steps up to the master's enabling, with the two CR1 writes in their places.
 abbrev pub steps : List Step → List Step → PairModel → List Step
-steps pre mid p = pre ++ (enables slave (plays pre p) ∷ (mid ++ (enables master (plays mid (slaveOn pre p)) ∷ [])))
+steps pre mid p = pre ++ (enables slave (plays pre p) ∷ (mid ++ (enables master (plays mid (slaveEnabled pre p)) ∷ [])))
 
 -- Two records whose devices exchange their words as demand 3 has it, and a pair run of any length on the records is as many pair cycles of the devices.
 pub record ExchangedRecords (r : Records) : Type 0 where
@@ -54,7 +56,7 @@ pub record ExchangedRecords (r : Records) : Type 0 where
 -- The first part: from any two sound records, set up as demand 3 has it, the steps leave such records.
 abbrev pub Demand3Records : Type 0
 Demand3Records =
-    (r : Records) (pre mid : List Step) → SoundRecords r → Start (devicesOf r) → 4 ≤ cyclesIn pre → Stays pre (devicesOf r) → Stays mid (slaveOn pre (devicesOf r))
+    (r : Records) (pre mid : List Step) → SoundRecords r → Start (devicesOf r) → 4 ≤ cyclesIn pre → Stays pre (devicesOf r) → Stays mid (slaveEnabled pre (devicesOf r))
     → ExchangedRecords (playsBytes (steps pre mid (devicesOf r)) r)
 
 -- The last sentence: the bytes that a run gives after the write that enabled a master determine its load, cut.
@@ -67,10 +69,6 @@ LastSentenceRecords =
     → map (cut (widthOf s)) (decode (writeLeft b o v) .registers .tx) ≡ map (cut (widthOf s)) (decode (writeLeft b′ o′ v′) .registers .tx)
 
 -- The other order ------------------------------------------------------------------------------------------------------
-
--- Two records in the other order.
-abbrev pub swappedRecords : Records → Records
-swappedRecords r = record { one = r .two; two = r .one }
 
 -- What each step leaves where the slave's record is the first and the master's the second, in a pair run too.
 abbrev pub playSwapped : Step → Records → Records
@@ -95,7 +93,7 @@ pub record ExchangedSwapped (r : Records) : Type 0 where
 abbrev pub Demand3Swapped : Type 0
 Demand3Swapped =
     (r : Records) (pre mid : List Step) → SoundRecords r → Start (swapped (devicesOf r)) → 4 ≤ cyclesIn pre
-    → Stays pre (swapped (devicesOf r)) → Stays mid (slaveOn pre (swapped (devicesOf r)))
+    → Stays pre (swapped (devicesOf r)) → Stays mid (slaveEnabled pre (swapped (devicesOf r)))
     → ExchangedSwapped (playsSwapped (steps pre mid (swapped (devicesOf r))) r)
 
 -- Polling --------------------------------------------------------------------------------------------------------------

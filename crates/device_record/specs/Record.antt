@@ -25,9 +25,11 @@ recordLength = 128
 
 -- Bytes of a number: the low one comes first.
 
+-- The low byte of a number.
 abbrev pub low : ℕ → ℕ
 low x = x % 256
 
+-- The byte above it.
 abbrev pub high : ℕ → ℕ
 high x = x / 256 % 256
 
@@ -51,7 +53,7 @@ registerBytes f =
     ∷ low (f .timeout .count .0) ∷ high (f .timeout .count .0) ∷ low (f .timeout .count .0 / 0x10000) ∷ high (f .timeout .count .0 / 0x10000)
     ∷ []
 
--- 12: frame, selected, mark, captured bits. 16: slot, held level. 18: cycles gone. 20: word being sent. 22: word being received.
+-- 12: frame, selected, mark, captured bits. 16: slot, held level. 18: elapsed cycles. 20: word being sent. 22: word being received.
 unfoldable pub engineBytes : Engine → List ℕ
 engineBytes e =
     boolByte (e .frame) ∷ boolByte (e .selected) ∷ boolByte (e .mark) ∷ low (e .shift .captured)
@@ -80,6 +82,7 @@ wordBytes (w ∷ ws) = low w ∷ high w ∷ wordBytes ws
 unfoldable pub queueBytes : Fields → List ℕ
 queueBytes f = wordBytes (f .tx) ++ (wordBytes (f .rx) ++ replicate 64 0)
 
+-- The record of a device: its one encoding.
 unfoldable pub encoded : DeviceModel → List ℕ
 encoded d = stateBytes (fieldsOf (d .registers)) (d .engine) (d .pins) (d .lines) ++ queueBytes (fieldsOf (d .registers))
 
@@ -93,15 +96,19 @@ pub record PutAt (before : List ℕ) (at : ℕ) (part after : List ℕ) : Type 0
 
 -- Bytes as a device. A byte past the end counts as 0.
 
+-- Byte i of a record.
 abbrev pub byteAt : List ℕ → ℕ → ℕ
 byteAt b i = getD b i 0
 
+-- The word in two bytes from i on, the low one first.
 unfoldable pub wordAt : List ℕ → ℕ → ℕ
 wordAt b i = byteAt b i + 256 * byteAt b (i + 1)
 
+-- The number in four bytes from i on, the low one first.
 unfoldable pub longAt : List ℕ → ℕ → ℕ
 longAt b i = wordAt b i + 0x10000 * wordAt b (i + 2)
 
+-- The flag in byte i: set where the byte is 1.
 unfoldable pub flagAt : List ℕ → ℕ → Bool
 flagAt b i = eqb (byteAt b i) 1
 
@@ -116,6 +123,7 @@ wordsAt b i =
 unfoldable pub linesFrom : ℕ → Lines
 linesFrom x = record { clk = bitAt x 0; fss = bitAt x 1; txd = bitAt x 2; released = bitAt x 3 }
 
+-- The registers in bytes 0 to 11, the queue counts in 28 and 29, the queue places in 32 to 63.
 unfoldable pub fieldsAt : List ℕ → Fields
 fieldsAt b =
     record {
@@ -129,6 +137,7 @@ fieldsAt b =
       held = byteAt b 29;
     }
 
+-- The engine in bytes 12 to 23: frame, selection, mark, slot, elapsed cycles, shift registers.
 unfoldable pub engineAt : List ℕ → Engine
 engineAt b =
     record {
@@ -140,9 +149,11 @@ engineAt b =
       shift = record { captured = byteAt b 15; level = flagAt b 17; sending = wordAt b 20; receiving = wordAt b 22 };
     }
 
+-- The pins of the last three cycles in bytes 24 to 26, newest first.
 unfoldable pub historyAt : List ℕ → History
 historyAt b = record { newest = pinsOf (byteAt b 24); middle = pinsOf (byteAt b 25); oldest = pinsOf (byteAt b 26) }
 
+-- The device that bytes stand for.
 unfoldable pub decode : List ℕ → DeviceModel
 decode b = record { registers = restored (fieldsAt b); engine = engineAt b; pins = historyAt b; lines = linesFrom (byteAt b 27) }
 

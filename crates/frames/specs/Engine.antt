@@ -74,6 +74,7 @@ completes width x = eqb (x .captured + 1) width
 
 -- What a step leaves: the engine, whether it took the next word to send, and the word that it completed, if any.
 
+-- No word is taken, and none is completed.
 abbrev pub noWord : Engine → Step
 noWord e = record { engine = e; takes = false; complete = false; word = 0 }
 

@@ -48,7 +48,7 @@ joinedTo e = not (eqb (e .shift .captured) 0)
 
 -- TXD of a master in a frame: the data level in the slots that show it.
 unfoldable pub masterTxd : Settings → Engine → Bool
-masterTxd s e = dataOn (s .format) (levelsOf s (joinedTo e) (e .slot)) (e .slot .0) && e .shift .level
+masterTxd s e = dataOn (s .format) (levelsOf s (joinedTo e) (e .slot)) (e .slot) && e .shift .level
 
 -- A master in a frame shows the slot's lines, else the idle ones.
 unfoldable pub masterLines : Settings → Engine → Lines
@@ -74,5 +74,6 @@ slaveLines s e =
       released = not (showsOn (s .format) e && not (s .sod));
     }
 
+-- The lines of a device: a slave's with MS 1, a master's with MS 0.
 unfoldable pub linesOf : Settings → Engine → Lines
 linesOf s e = pick (s .slave) (slaveLines s e) (masterLines s e)

@@ -43,23 +43,25 @@ microwireEvent b n =
     (pick (eqb n (18 + 2 * b)) (Chain (slots 0))
     (pick (eqb n (19 + 2 * b)) Release Pause)))))
 
+-- What happens in the first cycle of slot n, by the format's slot table.
 abbrev pub eventOn : Format → Bool → ℕ → ℕ → Event
 eventOn Motorola phase b n = motorolaEvent phase b n
 eventOn Ti phase b n = tiEvent b n
 eventOn Microwire phase b n = microwireEvent b n
 eventOn Reserved phase b n = Pause
 
--- What happens in the first cycle of slot n.
+-- What a master with these settings does in the first cycle of slot n.
 unfoldable pub eventOf : Settings → Slots → Event
 eventOf s n = eventOn (s .format) (s .phase) (s .bits) (n .0)
 
--- The last slot, idle ones included.
+-- The last slot of a word, idle ones included: 2b + 3 in Motorola, 2b + 1 in TI, 2b + 20 in Microwire.
 abbrev pub lastOn : Format → ℕ → ℕ
 lastOn Motorola b = 2 * b + 3
 lastOn Ti b = 2 * b + 1
 lastOn Microwire b = 2 * b + 20
 lastOn Reserved b = 0
 
+-- The last slot of a word with these settings.
 unfoldable pub lastSlot : Settings → Slots
 lastSlot s = slots (lastOn (s .format) (s .bits))
 
@@ -70,6 +72,7 @@ widthOn Ti b = b
 widthOn Microwire b = 8
 widthOn Reserved b = b
 
+-- How many bits of a word a master with these settings sends.
 unfoldable pub widthOf : Settings → ℕ
 widthOf s = widthOn (s .format) (s .bits)
 
@@ -94,19 +97,20 @@ tiLevels joined n = record { clk = eqb (n % 2) 0; fss = ltb n 2; released = ltb 
 unfoldable pub microwireLevels : ℕ → Levels
 microwireLevels n = record { clk = eqb (n % 2) 1; fss = false; released = leb 16 n }
 
+-- The levels of slot n in a frame, by the format's slot table; CLK is the logical one, before SPO.
 abbrev pub levelsOn : Format → Bool → ℕ → Bool → ℕ → Levels
 levelsOn Motorola phase b joined n = motorolaLevels phase b n
 levelsOn Ti phase b joined n = tiLevels joined n
 levelsOn Microwire phase b joined n = microwireLevels n
 levelsOn Reserved phase b joined n = record { clk = false; fss = true; released = true }
 
--- The levels of slot n in a frame; the clock is the logical one, before SPO.
+-- The levels of slot n in a frame of a master with these settings.
 unfoldable pub levelsOf : Settings → Bool → Slots → Levels
 levelsOf s joined n = levelsOn (s .format) (s .phase) (s .bits) joined (n .0)
 
 -- Whether TXD shows data in slot n, whose levels are v; in all others it is LOW. Motorola: not in 0. TI and Microwire: where nSSPOE is LOW.
-abbrev pub dataOn : Format → Levels → ℕ → Bool
-dataOn Motorola v n = ltb 0 n
+abbrev pub dataOn : Format → Levels → Slots → Bool
+dataOn Motorola v n = ltb 0 (n .0)
 dataOn Ti v n = not (v .released)
 dataOn Microwire v n = not (v .released)
 dataOn Reserved v n = false

@@ -3,8 +3,8 @@ ghost use mathlib.Core.Path.{_≡_};
 ghost use Prim.Native.Nat.{_-_};
 ghost use Rattle.frames.specs.Bits.{bitOf, cut, shiftedIn};
 
-// The place of bit i of a word of `width` bits, from the low end.
-fn place_of(width: u16, i: u16) -> u16
+// How far bit i of a word of `width` bits, counted from the top, is from the low end.
+fn shift_of(width: u16, i: u16) -> u16
     ensures { λ r. ⌜ r ≡ width - 1 - i ⌝ }
 {
     if i < width { width - 1 - i } else { 0 }
@@ -14,9 +14,9 @@ fn place_of(width: u16, i: u16) -> u16
 pub fn bit_of(width: u16, word: u16, i: u16) -> bool
     ensures { λ r. ⌜ r ≡ bitOf width word i ⌝ }
 {
-    let place = place_of(width, i);
-    if place < 16 {
-        return (word >> place) % 2 == 1;
+    let shift = shift_of(width, i);
+    if shift < 16 {
+        return (word >> shift) % 2 == 1;
     }
     false
 }

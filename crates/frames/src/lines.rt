@@ -117,7 +117,7 @@ pub fn master_txd(s: Settings, e: Engine) -> bool
 {
     let f = s.format;
     let levels = crate::slots::levels_of(s, e.shift.captured != 0, e.slot);
-    let shown = crate::slots::data_on(f, levels, e.slot.0);
+    let shown = crate::slots::data_on(f, levels, e.slot);
     shown & e.shift.level
 }
 
@@ -128,7 +128,7 @@ fn master_lines(s: Settings, e: Engine) -> Lines
     if frame {
         let v = crate::slots::levels_of(s, e.shift.captured != 0, e.slot);
         let f = s.format;
-        let shown = crate::slots::data_on(f, v, e.slot.0);
+        let shown = crate::slots::data_on(f, v, e.slot);
         return frame_lines(s, v, shown & e.shift.level);
     }
     let f = s.format;

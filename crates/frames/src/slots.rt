@@ -227,11 +227,11 @@ pub fn levels_of(s: Settings, joined: bool, slot: Slots) -> Levels
 }
 
 // Whether TXD shows data in a slot with these levels; it is LOW in the others.
-pub fn data_on(f: Format, v: Levels, n: u16) -> bool
+pub fn data_on(f: Format, v: Levels, n: Slots) -> bool
     ensures { λ r. ⌜ r ≡ dataOn f v n ⌝ }
 {
     match f {
-        Format::Motorola => 0 < n,
+        Format::Motorola => 0 < n.0,
         Format::Ti => !v.released,
         Format::Microwire => !v.released,
         Format::Reserved => false,

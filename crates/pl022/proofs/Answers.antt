@@ -8,7 +8,6 @@ use Rattle.registers.specs.declared.access.Answer.the-variants.{Word, Refused}
 use Rattle.device_record.specs.Calls.{ReadCall, RunCall}
 use Rattle.device_record.specs.declared.calls.RunAnswer.{RunAnswer}
 use Rattle.device_record.specs.declared.run.Stop.the-variants.{Never}
-use Rattle.device_record.proofs.Answers.{run-all, output-all}
 use Rattle.pl022.specs.Results.{ReadResult, RunResult}
 
 module _ (b : List ℕ) (o : ℕ) (a : Answer) (b′ : List ℕ) (g : ReadCall b o a b′) where
@@ -21,4 +20,4 @@ module _ (b : List ℕ) (o : ℕ) (a : Answer) (b′ : List ℕ) (g : ReadCall b
   read-refused k n q e = record { refusal = e ∙ ap refusalOf (g .answer); word = ap wordOf (sym q ∙ g .answer); left = g .left }
 
 pub run-every : (b i o : List ℕ) (r : RunAnswer) (b′ o′ : List ℕ) → RunCall Never b i o r b′ o′ → RunResult b i o (r .refusal) b′ o′
-run-every b i o r b′ o′ g = record { refusal = g .refusal; left = g .left ∙ run-all b i o; output = g .output ∙ output-all b i o }
+run-every b i o r b′ o′ g = record { refusal = g .refusal; left = g .left; output = g .output }

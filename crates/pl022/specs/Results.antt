@@ -2,13 +2,10 @@
 use Prim.Native.Nat.{ℕ}
 use mathlib.Core.Path.{_≡_}
 use mathlib.Core.List.{List}
-use lib.Dec.{eqb}
-use Rattle.registers.specs.Choose.{pick}
-use Rattle.registers.specs.Refusals.{done, refusalOf, wordOf}
-use Rattle.device_record.specs.Record.{decode}
-use Rattle.device_record.specs.Run.{afterBytes, outputs, runRefusal}
-use Rattle.device_record.specs.Calls.{leftBy, readCall, readLeft, runCount, runLeft, runOutput}
-use Rattle.device_record.specs.declared.run.Stop.the-variants.{NotBusy}
+use Rattle.registers.specs.Refusals.{refusalOf, wordOf}
+use Rattle.device_record.specs.Run.{runRefusal}
+use Rattle.device_record.specs.Calls.{readCall, readLeft, runCount, runLeft, runOutput}
+use Rattle.device_record.specs.declared.run.Stop.the-variants.{Never, NotBusy}
 use Rattle.pl022.specs.declared.WordResult.{WordResult}
 use Rattle.pl022.specs.declared.CountResult.{CountResult}
 
@@ -18,11 +15,11 @@ pub record ReadResult (bytes : List ℕ) (o : ℕ) (r : WordResult) (bytes′ : 
   pub word : r .word ≡ wordOf (readCall bytes o)
   pub left : bytes′ ≡ readLeft bytes o
 
--- A run: a cycle for each input byte, the lines of each in its place of the output.
+-- A run, which nothing stops: a cycle for each input byte, the lines of each in its place of the output.
 pub record RunResult (bytes ins outs : List ℕ) (r : ℕ) (bytes′ outs′ : List ℕ) : Type 0 where
   pub refusal : r ≡ runRefusal bytes ins outs
-  pub left : bytes′ ≡ leftBy (runRefusal bytes ins outs) (afterBytes (decode bytes) ins) bytes
-  pub output : outs′ ≡ pick (eqb (runRefusal bytes ins outs) done) (outputs (decode bytes) ins) outs
+  pub left : bytes′ ≡ runLeft Never bytes ins outs
+  pub output : outs′ ≡ runOutput Never bytes ins outs
 
 -- A run to idle: as many cycles as the count says; output bytes past them stay.
 pub record IdleResult (bytes ins outs : List ℕ) (r : CountResult) (bytes′ outs′ : List ℕ) : Type 0 where

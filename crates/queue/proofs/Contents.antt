@@ -2,20 +2,17 @@
 use Prim.Native.Nat.{ℕ, zero, suc, _+_, _-_, _≤_, _<_}
 use mathlib.Core.Path.{_≡_, refl, sym, ap, _∙_}
 use mathlib.Core.List.{List, [], _∷_, _++_}
-use mathlib.Core.Bool.{Bool, true, false}
+use mathlib.Core.Bool.{true, false}
 use native.Mathlib.Omega.{arith}
 use native.Mathlib.Numerals.{add-one}
 use native.Mathlib.Decide.{decLt}
-use lib.ListN.{length, getD, take, drop, set, length-set, length-take, length-append, length-drop, drop-of-length-le, List·getD-eq-default, replicate}
+use lib.ListN.{length, getD, take, drop, set, length-take, length-drop, drop-of-length-le, List·getD-eq-default, replicate}
 use lib.Seq.{length-take-le, take-all, take-suc-set, getD-set-other, getD-take, drop-cons, take-append-le, getD-drop}
-use lib.Dec.{ltb}
 use borrow.Author.Tests.{lt-ltb, le-ltb}
 use Rattle.queue.specs.declared.Queue.{Queue}
-use Rattle.queue.specs.declared.Added.{Added}
-use Rattle.queue.specs.declared.Taken.{Taken}
 use Rattle.queue.specs.declared.Oldest.the-variants.{Word, Nothing}
 use Rattle.queue.specs.Fifo.Inside.{contents-of, clean-intro, clean-elim}
-use Rattle.queue.specs.Fifo.{contents, Clean, usedWord, added, rest, oldest, Empty, Add, TakeOldest, Restored}
+use Rattle.queue.specs.Fifo.{contents, usedWord, added, oldest, Empty, Add, TakeOldest, Restored}
 
 -- the count
 

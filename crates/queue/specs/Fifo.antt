@@ -51,20 +51,24 @@ pub record Empty (r : Queue) : Type 0 where
   pub holds : contents r ≡ []
   pub clean : Clean r
 
+-- How many words are held, eight at most.
 pub record Count (q : Queue) (r : ℕ) : Type 0 where
   pub count : r ≡ length (contents q)
   pub most : r ≤ places
 
+-- A word is added and kept, unless eight are held: then it is dropped and the eight stay.
 pub record Add (q : Queue) (w : ℕ) (r : Added) : Type 0 where
   pub kept : r .kept ≡ ltb (length (contents q)) places
   pub holds : contents (r .queue) ≡ added (contents q) w
   pub clean : Clean q → Clean (r .queue)
 
+-- The oldest word, if there is one, is taken out; the others stay in their order.
 pub record TakeOldest (q : Queue) (r : Taken) : Type 0 where
   pub word : r .oldest ≡ oldest (contents q)
   pub holds : contents (r .queue) ≡ rest (contents q)
   pub clean : Clean q → Clean (r .queue)
 
+-- The first of the given words are held, as many as the count says; the other places are zero.
 pub record Restored (words : List ℕ) (count : ℕ) (r : Queue) : Type 0 where
   pub holds : contents r ≡ take count words
   pub clean : Clean r

@@ -9,7 +9,7 @@
 //   cycles N         so many cycles that end with no frame in progress
 //   frame            a cycle that ends with a frame in progress
 //   take             the oldest word to send is taken
-//   half, bits       h and b
+//   h, bits          h and b
 use registers::Registers;
 use registers::access;
 use registers::access::Answer;
@@ -72,7 +72,7 @@ fn take(r: Registers) -> Outcome {
     word(w as u32, transfer::take_word(r))
 }
 
-fn half(r: Registers) -> Outcome {
+fn divisor(r: Registers) -> Outcome {
     let s = settings::settings_of(r);
     word(s.divisor.0 as u32, r)
 }
@@ -137,7 +137,7 @@ pub(crate) fn run(r: Registers, letter: u8, first: u32, last: u32) -> Outcome {
         b'c' => done(cycles(r, last)),
         b'f' => done(transfer::end_cycle(r, true)),
         b't' => take(r),
-        b'h' => half(r),
+        b'h' => divisor(r),
         b'b' => bits(r),
         _ => done(r),
     }

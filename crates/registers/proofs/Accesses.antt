@@ -10,7 +10,7 @@ use Rattle.registers.proofs.Picks.{pick-yes, pick-no, pick-both, and-of
 use Rattle.registers.specs.Refusals.{firstOf}
 use Rattle.registers.specs.Model.{Model}
 use Rattle.registers.specs.Offsets.{registerOf}
-use Rattle.registers.specs.Settings.{enabledOf, permittedOf}
+use Rattle.registers.specs.Settings.{permittedOf}
 use Rattle.registers.specs.Access.{readRefusal, readDone, readModel, dataTaken, bitsBeyond, cr0Rule, cr1Rule, cpsrRule, writeRefusal, cr1Written, icrWritten, drWritten, imscWritten, dmacrWritten, writeDone, writeModel}
 use Rattle.registers.specs.declared.offsets.Register.{Register}
 use Rattle.registers.specs.declared.offsets.Register.the-variants.{Cr0, Cr1, Dr, Sr, Cpsr, Imsc, Ris, Mis, Icr, Dmacr, Identity, Reserved, Outside}
@@ -79,30 +79,33 @@ cpsr-done m active v h =
     let f = first-done _ _ h in
     record { small = bits-done 0x100 v (f .0); clear = pick-passed active 5 0 (omega arith) (f .1) .0 }
 
+-- A read leaves the register file or, of DR, takes a word out of it: what holds of both holds after it.
+module _ (P : Model → Type 0) (m : Model) (h : P m) where
+  done-either : (p : Register) → (p ≡ Dr → P (dataTaken m)) → P (readDone m p)
+  done-either Cr0 k = h
+  done-either Cr1 k = h
+  done-either Dr k = k refl
+  done-either Sr k = h
+  done-either Cpsr k = h
+  done-either Imsc k = h
+  done-either Ris k = h
+  done-either Mis k = h
+  done-either Icr k = h
+  done-either Dmacr k = h
+  done-either (Identity i) k = h
+  done-either Reserved k = h
+  done-either Outside k = h
+
+  pub read-either : (o : ℕ) → (registerOf o ≡ Dr → P (dataTaken m)) → P (readModel m o)
+  unfolding readModel
+  read-either o k = pick-both P (eqb (readRefusal m (registerOf o)) 0) _ _ (λ _. done-either (registerOf o) k) (λ _. h)
+
 -- The control registers after an access -------------------------------------------------------------------------------
 
 -- a read leaves them
-
-control-place : (m : Model) (p : Register) → readDone m p .control ≡ m .control
-unfolding dataTaken
-control-place m Cr0 = refl
-control-place m Cr1 = refl
-control-place m Dr = refl
-control-place m Sr = refl
-control-place m Cpsr = refl
-control-place m Imsc = refl
-control-place m Ris = refl
-control-place m Mis = refl
-control-place m Icr = refl
-control-place m Dmacr = refl
-control-place m (Identity i) = refl
-control-place m Reserved = refl
-control-place m Outside = refl
-
 pub control-read : (m : Model) (o : ℕ) → readModel m o .control ≡ m .control
-unfolding readModel
-control-read m o =
-    pick-both (λ (x : Model). x .control ≡ m .control) (eqb (readRefusal m (registerOf o)) 0) _ _ (λ _. control-place m (registerOf o)) (λ _. refl)
+unfolding dataTaken
+control-read m o = read-either (λ (x : Model). x .control ≡ m .control) m refl o (λ _. refl)
 
 -- a write leaves CR0 and CPSR while active
 

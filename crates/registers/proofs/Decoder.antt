@@ -12,11 +12,11 @@ use mir.Syntax.{w64}
 use Rattle.registers.specs.Choose.{pick}
 use Rattle.registers.specs.Offsets.{registerOf, identityWords, identityOf}
 use lib.Dec.{ltb}
-use Rattle.registers.specs.declared.offsets.Register.the-variants.{Cr0, Cr1, Dr, Sr, Cpsr, Imsc, Ris, Mis, Icr, Dmacr, Identity, Reserved, Outside}
+use Rattle.registers.specs.declared.offsets.Register.the-variants.{Identity, Reserved, Outside}
 
-pub place-odd : (o : ℕ) → (o % 4 ≡ 0 → ⊥) → Outside ≡ registerOf o
+pub register-odd : (o : ℕ) → (o % 4 ≡ 0 → ⊥) → Outside ≡ registerOf o
 unfolding registerOf
-place-odd o h = rw (ne-eqb (o % 4) 0 h)
+register-odd o h = rw (ne-eqb (o % 4) 0 h)
 
 -- past the registers with an offset of their own
 beyond : (o : ℕ) → o % 4 ≡ 0 → 40 ≤ o → registerOf o ≡ pick (ltb o 0xFE0) Reserved (pick (ltb o 0x1000) (Identity ((o - 0xFE0) / 4)) Outside)
@@ -24,14 +24,14 @@ unfolding registerOf
 beyond o m a =
     simp (eq-eqb (o % 4) 0 m, ne-eqb o 0x00 (omega arith), ne-eqb o 0x04 (omega arith), ne-eqb o 0x08 (omega arith), ne-eqb o 0x0C (omega arith), ne-eqb o 0x10 (omega arith), ne-eqb o 0x14 (omega arith), ne-eqb o 0x18 (omega arith), ne-eqb o 0x1C (omega arith), ne-eqb o 0x20 (omega arith), ne-eqb o 0x24 (omega arith))
 
-pub place-reserved : (o : ℕ) → o % 4 ≡ 0 → 40 ≤ o → o < 4061 → Reserved ≡ registerOf o
-place-reserved o m a b = rw (beyond o m a, lt-ltb o 0xFE0 (omega arith))
+pub register-reserved : (o : ℕ) → o % 4 ≡ 0 → 40 ≤ o → o < 4061 → Reserved ≡ registerOf o
+register-reserved o m a b = rw (beyond o m a, lt-ltb o 0xFE0 (omega arith))
 
-pub place-identity : (o : ℕ) → o % 4 ≡ 0 → 4064 ≤ o → o < 4093 → Identity ((o - 0xFE0) / 4) ≡ registerOf o
-place-identity o m a b = rw (beyond o m (omega arith), le-ltb o 0xFE0 a, lt-ltb o 0x1000 (omega arith))
+pub register-identity : (o : ℕ) → o % 4 ≡ 0 → 4064 ≤ o → o < 4093 → Identity ((o - 0xFE0) / 4) ≡ registerOf o
+register-identity o m a b = rw (beyond o m (omega arith), le-ltb o 0xFE0 a, lt-ltb o 0x1000 (omega arith))
 
-pub place-outside : (o : ℕ) → o % 4 ≡ 0 → 4093 ≤ o → Outside ≡ registerOf o
-place-outside o m a = rw (beyond o m (omega arith), le-ltb o 0xFE0 (omega arith), le-ltb o 0x1000 (omega arith))
+pub register-outside : (o : ℕ) → o % 4 ≡ 0 → 4093 ≤ o → Outside ≡ registerOf o
+register-outside o m a = rw (beyond o m (omega arith), le-ltb o 0xFE0 (omega arith), le-ltb o 0x1000 (omega arith))
 
 pub identity-fits : (o : ℕ) → o < 4093 → Fits w64 ((o - 4064) / 4)
 identity-fits o h = omega arith

@@ -1,5 +1,4 @@
 -- Reset: SR 0x03 and RIS 0x8.
-use Prim.Native.Nat.{ℕ}
 use mathlib.Core.Path.{_≡_, refl}
 use mathlib.Core.Bool.{false}
 use Rattle.registers.specs.Model.{resetRegisters}

@@ -16,8 +16,8 @@ use Rattle.registers.specs.Time.{cyclesOf}
 use Rattle.registers.specs.Model.{Model, resetRegisters}
 use Rattle.registers.specs.Offsets.{registerOf}
 use Rattle.registers.specs.Settings.{permittedOf, enabledOf, divisorOf, bitsOf, formatOf}
-use Rattle.registers.specs.Access.{readRefusal, readDone, readModel, dataTaken, keptCount, writeRefusal, cr0Written, cr1Written, cpsrWritten, icrWritten, drWritten, imscWritten, dmacrWritten, writeDone, writeModel}
-use Rattle.registers.proofs.Accesses.{cr0-done, cr1-done, cpsr-done}
+use Rattle.registers.specs.Access.{readModel, dataTaken, keptCount, writeRefusal, cr0Written, cr1Written, cpsrWritten, icrWritten, drWritten, imscWritten, dmacrWritten, writeDone, writeModel}
+use Rattle.registers.proofs.Accesses.{read-either, cr0-done, cr1-done, cpsr-done}
 use Rattle.registers.specs.Transfer.{nextWord, limitOf, idlesOf, timeoutOf, takeWord, receiveWord, endCycle}
 use Rattle.registers.specs.Sound.{controlSound, masksSound, queuesSound, countSound, soundRegisters, wordsFit, registersFit}
 use Rattle.registers.specs.declared.Control.{Control}
@@ -204,24 +204,8 @@ sound-taken m active on h =
     let t = sound-elim m active h in
     sound-intro _ active (record { control = t .control; imsc = t .imsc; dmacr = t .dmacr; tx = t .tx; rx = rest-most (m .rx) (t .rx); count = count-zero (m .control) active on (t .control) })
 
-sound-place : (m : Model) (active : Bool) (p : Register) → Enables (m .control) active → soundRegisters m active ≡ true → soundRegisters (readDone m p) active ≡ true
-sound-place m active Cr0 on h = h
-sound-place m active Cr1 on h = h
-sound-place m active Dr on h = sound-taken m active on h
-sound-place m active Sr on h = h
-sound-place m active Cpsr on h = h
-sound-place m active Imsc on h = h
-sound-place m active Ris on h = h
-sound-place m active Mis on h = h
-sound-place m active Icr on h = h
-sound-place m active Dmacr on h = h
-sound-place m active (Identity i) on h = h
-sound-place m active Reserved on h = h
-sound-place m active Outside on h = h
-
 pub sound-read : (m : Model) (active : Bool) (o : ℕ) → Enables (m .control) active → soundRegisters m active ≡ true → soundRegisters (readModel m o) active ≡ true
-unfolding readModel
-sound-read m active o on h = pick-both (λ (x : Model). soundRegisters x active ≡ true) (eqb (readRefusal m (registerOf o)) 0) _ _ (λ _. sound-place m active (registerOf o) on h) (λ _. h)
+sound-read m active o on h = read-either (λ (x : Model). soundRegisters x active ≡ true) m h o (λ _. sound-taken m active on h)
 
 -- Writing ------------------------------------------------------------------------------------------------------------
 
@@ -470,28 +454,12 @@ fits-end m frame h =
       rx = t .rx;
     })
 
-fits-place : (m : Model) (p : Register) → registersFit m ≡ true → registersFit (readDone m p) ≡ true
-unfolding dataTaken
-fits-place m Cr0 h = h
-fits-place m Cr1 h = h
-fits-place m Dr h =
-    let t = fits-elim m h in
-    fits-intro _ (record { cr0 = t .cr0; cpsr = t .cpsr; count = omega arith; tx = t .tx; rx = rest-fits (m .rx) (t .rx) })
-fits-place m Sr h = h
-fits-place m Cpsr h = h
-fits-place m Imsc h = h
-fits-place m Ris h = h
-fits-place m Mis h = h
-fits-place m Icr h = h
-fits-place m Dmacr h = h
-fits-place m (Identity i) h = h
-fits-place m Reserved h = h
-fits-place m Outside h = h
-
 pub fits-read : (m : Model) (o : ℕ) → registersFit m ≡ true → registersFit (readModel m o) ≡ true
-unfolding readModel
+unfolding dataTaken
 fits-read m o h =
-    pick-both (λ (x : Model). registersFit x ≡ true) (eqb (readRefusal m (registerOf o)) 0) _ _ (λ _. fits-place m (registerOf o) h) (λ _. h)
+    let t = fits-elim m h in
+    read-either (λ (x : Model). registersFit x ≡ true) m h o
+    (λ _. fits-intro _ (record { cr0 = t .cr0; cpsr = t .cpsr; count = omega arith; tx = t .tx; rx = rest-fits (m .rx) (t .rx) }))
 
 fits-kept : (keep : Bool) (n : Cycles) → n .0 < 0x100000000 → keptCount keep n .0 < 0x100000000
 fits-kept keep n h = pick-both (λ (x : Cycles). x .0 < 0x100000000) keep _ _ (λ _. h) (λ _. omega arith)

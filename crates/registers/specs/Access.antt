@@ -1,17 +1,17 @@
 -- What a read and a write of a register answer and leave.
 use Prim.Native.Nat.{ℕ, _*_, _/_, _%_}
 use mathlib.Core.Path.{_≡_}
-use mathlib.Core.List.{List, [], _∷_}
+use mathlib.Core.List.{[]}
 use mathlib.Core.Bool.{Bool, not, _&&_, _||_}
 use lib.ListN.{length, getD}
-use lib.Dec.{ltb, leb, eqb}
+use lib.Dec.{leb, eqb}
 use Rattle.queue.specs.Fifo.{added, rest}
 use Rattle.registers.specs.Choose.{pick, bitAt, bitsDiffer}
 use Rattle.registers.specs.Time.{cycles}
 use Rattle.registers.specs.Refusals.{done, badOffset, reservedOffset, wrongAccess, extraBits, whileEnabled, notPermitted, queueFull, queueEmpty, firstOf, refusalOf, wordOf}
 use Rattle.registers.specs.Model.{Model, modelOf, withControl, withMasks, withTimeout, withRor, withTx, withRx}
 use Rattle.registers.specs.Offsets.{registerOf, identityOf}
-use Rattle.registers.specs.Settings.{enabledOf, permittedOf}
+use Rattle.registers.specs.Settings.{permittedOf}
 use Rattle.registers.specs.Flags.{statusOf, rawOf, maskedOf, interruptWord}
 use Rattle.registers.specs.declared.time.Cycles.{Cycles}
 use Rattle.registers.specs.declared.offsets.Register.{Register}
@@ -23,7 +23,7 @@ use Rattle.registers.specs.declared.access.Written.{Written}
 
 -- Reading ------------------------------------------------------------------------------------------------------------
 
--- 1, 2 and 3, by the place alone; 8: the data register with no word held.
+-- 1, 2 and 3, by the register alone; 8: the data register with no word held.
 abbrev pub readRefusal : Model → Register → ℕ
 readRefusal m Cr0 = done
 readRefusal m Cr1 = done
@@ -39,7 +39,7 @@ readRefusal m (Identity i) = done
 readRefusal m Reserved = reservedOffset
 readRefusal m Outside = badOffset
 
--- The word of a place, 0 where a read is refused by the place; `frame` says whether a frame is in progress.
+-- The word of a register, 0 where a read of it is refused; `frame` says whether a frame is in progress.
 abbrev pub readWord : Model → Bool → Register → ℕ
 readWord m frame Cr0 = m .control .cr0
 readWord m frame Cr1 = m .control .cr1
@@ -85,6 +85,7 @@ readAnswer m frame o = pick (eqb (readRefusal m (registerOf o)) done) (Word (rea
 unfoldable pub readModel : Model → ℕ → Model
 readModel m o = pick (eqb (readRefusal m (registerOf o)) done) (readDone m (registerOf o)) m
 
+-- A read: its answer, and the register file after it.
 pub record Read (m : Model) (frame : Bool) (o : ℕ) (r : Reading) : Type 0 where
   pub answer : r .answer ≡ readAnswer m frame o
   pub refusal : refusalOf (r .answer) ≡ readRefusal m (registerOf o)
@@ -97,7 +98,7 @@ pub record Read (m : Model) (frame : Bool) (o : ℕ) (r : Reading) : Type 0 wher
 abbrev pub bitsBeyond : ℕ → ℕ → ℕ
 bitsBeyond limit v = pick (leb limit v) extraBits done
 
--- 1 to 4, by the place and the value alone.
+-- 1 to 4, by the register and the value alone.
 abbrev pub writeAccess : Register → ℕ → ℕ
 writeAccess Cr0 v = bitsBeyond 0x10000 v
 writeAccess Cr1 v = bitsBeyond 0x10 v
@@ -150,6 +151,7 @@ writeRule m active (Identity i) v = done
 writeRule m active Reserved v = done
 writeRule m active Outside v = done
 
+-- The refusal number of a write, the first of 1 to 7 that applies; 0 if it is done.
 unfoldable pub writeRefusal : Model → Bool → Register → ℕ → ℕ
 writeRefusal m active p v = firstOf (writeAccess p v) (writeRule m active p v)
 
@@ -181,9 +183,11 @@ icrWritten m v =
 unfoldable pub drWritten : Model → ℕ → Model
 drWritten m v = withTx m (added (m .tx) (v % 0x10000))
 
+-- A written IMSC: the masks of TX, RX, RT and ROR.
 unfoldable pub imscWritten : Model → ℕ → Model
 imscWritten m v = withMasks m (record { imsc = v % 0x10; dmacr = m .masks .dmacr })
 
+-- A written DMACR: its two bits are stored and do nothing.
 unfoldable pub dmacrWritten : Model → ℕ → Model
 dmacrWritten m v = withMasks m (record { imsc = m .masks .imsc; dmacr = v % 0x4 })
 
@@ -207,6 +211,7 @@ writeDone m Outside v = m
 unfoldable pub writeModel : Model → Bool → ℕ → ℕ → Model
 writeModel m active o v = pick (eqb (writeRefusal m active (registerOf o) v) done) (writeDone m (registerOf o) v) m
 
+-- A write: its refusal number, and the register file after it.
 pub record Write (m : Model) (active : Bool) (o v : ℕ) (r : Written) : Type 0 where
   pub refusal : r .refusal ≡ writeRefusal m active (registerOf o) v
   pub model : modelOf (r .registers) ≡ writeModel m active o v

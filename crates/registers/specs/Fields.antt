@@ -9,6 +9,7 @@ use Rattle.registers.specs.declared.fields.Fields.{Fields}
 unfoldable pub places : List ℕ → List ℕ
 places ws = getD ws 0 0 ∷ getD ws 1 0 ∷ getD ws 2 0 ∷ getD ws 3 0 ∷ getD ws 4 0 ∷ getD ws 5 0 ∷ getD ws 6 0 ∷ getD ws 7 0 ∷ []
 
+-- The register file taken apart: each queue as its eight places and the count of its words.
 unfoldable pub fieldsOf : Model → Fields
 fieldsOf m =
     record {

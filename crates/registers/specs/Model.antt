@@ -10,6 +10,7 @@ use Rattle.registers.specs.declared.Timeout.{Timeout}
 use Rattle.registers.specs.declared.Registers.{Registers}
 pub mod Inside
 
+-- A register file as the definitions see it.
 pub record Model : Type 0 where
   -- CR0, CR1, CPSR
   pub control : Control

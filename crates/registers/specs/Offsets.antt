@@ -29,5 +29,6 @@ registerOf o =
 abbrev pub identityWords : List ℕ
 identityWords = 0x22 ∷ 0x10 ∷ 0x34 ∷ 0x00 ∷ 0x0D ∷ 0xF0 ∷ 0x05 ∷ 0xB1 ∷ []
 
+-- The word of identity register i, counted from 0xFE0 on.
 abbrev pub identityOf : ℕ → ℕ
 identityOf i = getD identityWords i 0

@@ -5,6 +5,7 @@ use Rattle.registers.specs.Choose.{pick}
 use Rattle.registers.specs.declared.access.Answer.{Answer}
 use Rattle.registers.specs.declared.access.Answer.the-variants.{Word, Refused}
 
+-- nothing is refused
 abbrev pub done : ℕ
 done = 0
 

@@ -1,5 +1,5 @@
 -- A sound register file: the part of the soundness list that speaks of registers and queues.
-use Prim.Native.Nat.{ℕ, _*_, _%_}
+use Prim.Native.Nat.{ℕ, _%_}
 use mathlib.Core.List.{List, [], _∷_}
 use mathlib.Core.Bool.{Bool, true, not, _&&_, _||_}
 use lib.ListN.{length}
@@ -29,15 +29,18 @@ queuesSound m = leb (length (m .tx)) 8 && leb (length (m .rx)) 8
 unfoldable pub countSound : Model → Bool
 countSound m = pick (enabledOf (m .control)) (ltb (m .timeout .count .0) (limitOf m .0)) (eqb (m .timeout .count .0) 0)
 
+-- A sound register file: control registers, masks, queue counts and RT count are sound.
 unfoldable pub soundRegisters : Model → Bool → Bool
 soundRegisters m active = (controlSound (m .control) active && masksSound (m .masks)) && (queuesSound m && countSound m)
 
 -- What the bytes of a record can hold: true of every register file that the code makes.
 
+-- Every word has 16 bits.
 unfoldable pub wordsFit : List ℕ → Bool
 wordsFit [] = true
 wordsFit (w ∷ ws) = ltb w 0x10000 && wordsFit ws
 
+-- CR0 and the words of both queues have 16 bits, CPSR 8, the RT count 32.
 unfoldable pub registersFit : Model → Bool
 registersFit m =
     ((ltb (m .control .cr0) 0x10000 && ltb (m .control .cpsr) 0x100) && ltb (m .timeout .count .0) 0x100000000)

@@ -37,6 +37,7 @@ idlesOf m frame = (not (eqb (length (m .rx)) 0) && enabledOf (m .control)) && no
 unfoldable pub limitOf : Model → Cycles
 limitOf m = cyclesOf (slots 64) (divisorOf (m .control))
 
+-- It is at most 64 × 32,512.
 pub record LimitOf (m : Model) (r : Cycles) : Type 0 where
   pub limit : r ≡ limitOf m
   pub most : r .0 ≤ 2080768
@@ -50,5 +51,6 @@ timeoutOf m frame =
     (record { rt = m .timeout .rt; count = cycles (m .timeout .count .0 + 1) }))
     (record { rt = m .timeout .rt; count = cycles 0 })
 
+-- The end of a cycle changes the timeout alone.
 unfoldable pub endCycle : Model → Bool → Model
 endCycle m frame = withTimeout m (timeoutOf m frame)

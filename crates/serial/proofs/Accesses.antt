@@ -1,12 +1,12 @@
 -- Accesses to a device: their refusal numbers are at most 8, and neither a refused one nor a read of another register than DR changes anything.
 use Prim.Native.Nat.{ℕ, _≤_}
-use mathlib.Core.Path.{_≡_, refl, sym, ap, _∙_}
+use mathlib.Core.Path.{_≡_, refl, ap, _∙_}
 use mathlib.Core.Bool.{Bool, true, false, not, _&&_, _||_, true≢false}
 use native.Mathlib.Omega.{arith}
 use lib.ListN.{length}
 use lib.Dec.{leb, eqb}
 use Rattle.registers.specs.Choose.{pick, bitAt, bitsDiffer}
-use Rattle.registers.specs.Refusals.{firstOf, refusalOf}
+use Rattle.registers.specs.Refusals.{refusalOf}
 use Rattle.registers.specs.Model.{Model}
 use Rattle.registers.specs.Offsets.{registerOf}
 use Rattle.registers.specs.Settings.{enabledOf, permittedOf}
@@ -15,7 +15,8 @@ use Rattle.registers.specs.declared.access.Answer.the-variants.{Word, Refused}
 use Rattle.registers.specs.declared.offsets.Register.{Register}
 use Rattle.registers.specs.declared.offsets.Register.the-variants.{Cr0, Cr1, Dr, Sr, Cpsr, Imsc, Ris, Mis, Icr, Dmacr, Identity, Reserved, Outside}
 use Rattle.serial.specs.Cycle.{DeviceModel, activeDevice, withRegisters, withEngine}
-use Rattle.registers.proofs.Picks.{pick-no, pick-both}
+use Rattle.registers.proofs.Picks.{pick-no}
+use Rattle.registers.proofs.Accesses.{read-either}
 use Rattle.frames.specs.Engine.{cleared}
 use Rattle.serial.specs.Access.{readAnswerOf, readDevice, writeRefusalOf, engineAfter, writeDevice}
 use Rattle.frames.specs.declared.engine.Engine.{Engine}
@@ -128,25 +129,11 @@ write-same d o v h =
 
 -- A read of another register than DR changes nothing: a host may poll SR -----------------------------------------------
 
-read-done-same : (m : Model) (p : Register) → (p ≡ Dr → ⊥) → readDone m p ≡ m
-read-done-same m Cr0 h = refl
-read-done-same m Cr1 h = refl
-read-done-same m Dr h = absurd (h refl)
-read-done-same m Sr h = refl
-read-done-same m Cpsr h = refl
-read-done-same m Imsc h = refl
-read-done-same m Ris h = refl
-read-done-same m Mis h = refl
-read-done-same m Icr h = refl
-read-done-same m Dmacr h = refl
-read-done-same m (Identity i) h = refl
-read-done-same m Reserved h = refl
-read-done-same m Outside h = refl
-
 pub read-other-same : (d : DeviceModel) (o : ℕ) → (registerOf o ≡ Dr → ⊥) → readDevice d o ≡ d
-unfolding readDevice readModel
-read-other-same d o h =
-    let m = d .registers in
-    let p = registerOf o in
-    ap (withRegisters d)
-    (pick-both (λ (x : Model). x ≡ m) (eqb (readRefusal m p) 0) (readDone m p) m (λ _. read-done-same m p h) (λ _. refl))
+unfolding readDevice
+read-other-same d o h = ap (withRegisters d) (read-either (λ (x : Model). x ≡ d .registers) (d .registers) refl o (λ e. absurd (h e)))
+
+-- A write to a device whose SSE is clear leaves its engine.
+pub engine-enabling : (d : DeviceModel) (o v : ℕ) → enabledOf (d .registers .control) ≡ false → writeDevice d o v .engine ≡ d .engine
+unfolding writeDevice engineAfter
+engine-enabling d o v k = pick-no _ _ (ap (λ (t : Bool). t && not (enabledOf (writeModel (d .registers) (activeDevice d) o v .control))) k)

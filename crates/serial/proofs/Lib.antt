@@ -1,4 +1,4 @@
-mod Wiring
+mod PairRuns
 pub mod Swap
 pub mod Accesses
 pub mod Status

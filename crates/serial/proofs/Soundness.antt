@@ -9,7 +9,7 @@ use lib.Dec.{ltb, leb, eqb}
 use borrow.Author.Tests.{ltb-true, leb-true, eqb-true, lt-ltb, le-leb, not-false}
 use Rattle.registers.specs.Time.{slots}
 use Rattle.registers.specs.Choose.{pick}
-use Rattle.registers.proofs.Picks.{pick-yes, pick-no, pick-both, and-left, and-right, and-both, and-off}
+use Rattle.registers.proofs.Picks.{pick-yes, pick-no, pick-both, and-left, and-right, and-both, and-off, not-elim}
 use Rattle.registers.specs.Model.{Model}
 use Rattle.registers.specs.Settings.{formatOf, bitsOf, divisorOf, enabledOf, settingsOf}
 use Rattle.registers.specs.Access.{writeModel, readModel}
@@ -136,8 +136,8 @@ module _ (F : Type 0) (s : Settings) where
   engine-cleared : 1 ≤ s .divisor .0 → EngineFacts F s cleared
   engine-cleared h = record { slot = omega arith; elapsed = h; shift = shift-cleared F (s .bits) }
 
-  step-still : (e : Engine) → EngineFacts F s e → StepFacts F s (noWord e)
-  step-still e t = record { engine = t; word = omega arith }
+  step-none : (e : Engine) → EngineFacts F s e → StepFacts F s (noWord e)
+  step-none e t = record { engine = t; word = omega arith }
 
   step-pick : (t : Bool) (x y : Step) → StepFacts F s x → StepFacts F s y → StepFacts F s (pick t x y)
   step-pick t x y p q = pick-both (λ (r : Step). StepFacts F s r) t x y (λ _. p) (λ _. q)
@@ -178,12 +178,12 @@ module _ (F : Type 0) (s : Settings) where
   step-act e waiting next bit (Chain k) t n l =
       step-pick waiting _ _
       (record { engine = record { slot = l; elapsed = t .elapsed; shift = shift-started F (s .bits) (widthOf s) next n }; word = omega arith })
-      (step-still e t)
+      (step-none e t)
   step-act e waiting next bit (JoinDrive i) t n l =
       step-pick waiting _ _
       (record { engine = record { slot = omega arith; elapsed = t .elapsed; shift = shift-joined F (s .bits) (widthOf s) i next (e .shift) n (t .shift) }; word = omega arith })
       (step-drive i (widthOf s) e t)
-  step-act e waiting next bit JoinCapture t n l = step-pick (eqb (e .shift .captured) 0) _ _ (step-still e t) (step-capture bit e t)
+  step-act e waiting next bit JoinCapture t n l = step-pick (eqb (e .shift .captured) 0) _ _ (step-none e t) (step-capture bit e t)
   step-act e waiting next bit Quiet t n l = record {
     engine = record { slot = t .slot; elapsed = t .elapsed; shift = shift-quieted F (s .bits) (e .shift) (t .shift) };
     word = omega arith;
@@ -192,12 +192,12 @@ module _ (F : Type 0) (s : Settings) where
     engine = record { slot = t .slot; elapsed = t .elapsed; shift = shift-cleared F (s .bits) };
     word = omega arith;
   }
-  step-act e waiting next bit Pause t n l = step-still e t
+  step-act e waiting next bit Pause t n l = step-none e t
 
   step-master : (e : Engine) (waiting : Bool) (next : ℕ) (rxd : Bool) → EngineFacts F s e → (F → next < 0x10000) → StepFacts F s (masterStep s e waiting next rxd)
   unfolding masterStep
   step-master e waiting next rxd t n =
-      step-pick (acting e waiting) _ _ (step-act e waiting next (dataBit s (masterTxd s e) rxd) (eventOf s (e .slot)) t n (event-lands s (e .slot .0))) (step-still e t)
+      step-pick (acting e waiting) _ _ (step-act e waiting next (dataBit s (masterTxd s e) rxd) (eventOf s (e .slot)) t n (event-lands s (e .slot .0))) (step-none e t)
 
   end-master : (e : Engine) → EngineFacts F s e → EngineFacts F s (masterEnd s e)
   unfolding masterEnd ticked
@@ -224,15 +224,15 @@ module _ (F : Type 0) (s : Settings) where
   step-select e fell next t n =
       let c : EngineFacts F s (selectedOf e) = record { slot = t .slot; elapsed = t .elapsed; shift = shift-cleared F (s .bits) } in
       step-pick fell _ _
-      (step-pick (s .phase) _ _ (step-still (selectedOf e) c) (step-take (selectedOf e) (s .enabled) next c n))
-      (step-still e t)
+      (step-pick (s .phase) _ _ (step-none (selectedOf e) c) (step-take (selectedOf e) (s .enabled) next c n))
+      (step-none e t)
 
   step-clock : (e : Engine) (captures drives : Bool) (next : ℕ) (bit : Bool) → EngineFacts F s e → (F → next < 0x10000) → StepFacts F s (motorolaClock s e captures drives next bit)
   unfolding motorolaClock
   step-clock e captures drives next bit t n =
       step-pick (e .frame && captures) _ _ (step-capture bit e t)
       (step-pick (e .frame && drives) _ _ (step-drive (e .shift .captured) (s .bits) e t)
-      (step-pick (drives && s .phase) _ _ (step-take e (s .enabled) next t n) (step-still e t)))
+      (step-pick (drives && s .phase) _ _ (step-take e (s .enabled) next t n) (step-none e t)))
 
   step-edges : (r : Step) (before seen : Pins) (next : ℕ) → StepFacts F s r → (F → next < 0x10000) → StepFacts F s (motorolaEdges s r before seen next)
   unfolding motorolaEdges
@@ -243,7 +243,7 @@ module _ (F : Type 0) (s : Settings) where
   step-motorola : (e : Engine) (before seen : Pins) (next : ℕ) → EngineFacts F s e → (F → next < 0x10000) → StepFacts F s (motorolaSlave s e before seen next)
   unfolding motorolaSlave
   step-motorola e before seen next t n =
-      step-pick (seen .fss) _ _ (step-still cleared (engine-cleared (let p = t .elapsed in omega arith)))
+      step-pick (seen .fss) _ _ (step-none cleared (engine-cleared (let p = t .elapsed in omega arith)))
       (step-edges (motorolaSelect s e (before .fss) next) before seen next (step-select e (before .fss) next t n) n)
 
   step-falls : (e : Engine) (fss bit : Bool) → EngineFacts F s e → StepFacts F s (tiFalls s e fss bit)
@@ -254,26 +254,26 @@ module _ (F : Type 0) (s : Settings) where
       (step-pick (fss && ltb (e .shift .captured + 1) (s .bits)) _ _
       (record { engine = record { slot = t .slot; elapsed = t .elapsed; shift = shift-cleared F (s .bits) }; word = omega arith })
       (step-capture bit (withMark e (e .mark || fss)) m))
-      (step-still (withMark e (e .mark || fss)) m)
+      (step-none (withMark e (e .mark || fss)) m)
 
   step-rises : (e : Engine) (next : ℕ) → EngineFacts F s e → (F → next < 0x10000) → StepFacts F s (tiRises s e next)
   unfolding tiRises
   step-rises e next t n =
       step-pick (e .mark) _ _
       (step-take (withMark e false) (s .enabled) next (record { slot = t .slot; elapsed = t .elapsed; shift = t .shift }) n)
-      (step-pick (e .frame) _ _ (step-drive (e .shift .captured) (s .bits) e t) (step-still e t))
+      (step-pick (e .frame) _ _ (step-drive (e .shift .captured) (s .bits) e t) (step-none e t))
 
   step-ti : (e : Engine) (before seen : Pins) (next : ℕ) → EngineFacts F s e → (F → next < 0x10000) → StepFacts F s (tiSlave s e before seen next)
   unfolding tiSlave
   step-ti e before seen next t n =
       step-pick (before .clk && not (seen .clk)) _ _ (step-falls e (seen .fss) (dataBit s (e .shift .level) (seen .rxd)) t)
-      (step-pick (not (before .clk) && seen .clk) _ _ (step-rises e next t n) (step-still e t))
+      (step-pick (not (before .clk) && seen .clk) _ _ (step-rises e next t n) (step-none e t))
 
   step-slave-on : (f : Format) (e : Engine) (before seen : Pins) (next : ℕ) → EngineFacts F s e → (F → next < 0x10000) → StepFacts F s (slaveOn f s e before seen next)
   step-slave-on Motorola e before seen next t n = step-motorola e before seen next t n
   step-slave-on Ti e before seen next t n = step-ti e before seen next t n
-  step-slave-on Microwire e before seen next t n = step-still cleared (engine-cleared (let p = t .elapsed in omega arith))
-  step-slave-on Reserved e before seen next t n = step-still cleared (engine-cleared (let p = t .elapsed in omega arith))
+  step-slave-on Microwire e before seen next t n = step-none cleared (engine-cleared (let p = t .elapsed in omega arith))
+  step-slave-on Reserved e before seen next t n = step-none cleared (engine-cleared (let p = t .elapsed in omega arith))
 
   step-slave : (e : Engine) (before seen : Pins) (next : ℕ) → EngineFacts F s e → (F → next < 0x10000) → StepFacts F s (slaveStep s e before seen next)
   unfolding slaveStep
@@ -295,17 +295,21 @@ running-intro : (F : Type 0) (s : Settings) (e : Engine) → EngineFacts F s e �
 unfolding runningSound
 running-intro F s e t = and-both _ _ (and-both _ _ (le-leb _ _ (t .slot)) (lt-ltb _ _ (t .elapsed))) (le-leb _ _ (t .shift .captured))
 
-record StoppedFacts (e : Engine) : Type 0 where
-  slot : e .slot .0 ≡ 0
-  elapsed : e .elapsed .0 ≡ 0
-  captured : e .shift .captured ≡ 0
+-- no frame, no idle slot, nothing captured
+pub record Stopped (e : Engine) : Type 0 where
+  pub frame : e .frame ≡ false
+  pub slot : e .slot .0 ≡ 0
+  pub elapsed : e .elapsed .0 ≡ 0
+  pub captured : e .shift .captured ≡ 0
 
-stopped-elim : (e : Engine) → stoppedSound e ≡ true → StoppedFacts e
+pub stopped-elim : (e : Engine) → stoppedSound e ≡ true → Stopped e
 unfolding stoppedSound
 stopped-elim e h =
+    let flags = and-left ((not (e .frame) && not (e .selected)) && not (e .mark)) _ h in
     let a = and-right ((not (e .frame) && not (e .selected)) && not (e .mark)) _ h in
     let b = and-left (eqb (e .slot .0) 0 && eqb (e .elapsed .0) 0) _ a in
     record {
+      frame = not-elim (e .frame) (and-left (not (e .frame)) _ (and-left (not (e .frame) && not (e .selected)) _ flags));
       slot = eqb-true _ _ (and-left (eqb (e .slot .0) 0) _ b);
       elapsed = eqb-true _ _ (and-right (eqb (e .slot .0) 0) _ b);
       captured = eqb-true _ _ (and-right (eqb (e .slot .0) 0 && eqb (e .elapsed .0) 0) _ a);
@@ -383,7 +387,7 @@ running-sound : (c : Control) (e : Engine) → enabledOf c ≡ true → runningS
 unfolding engineSound settingsOf
 running-sound c e k h = pick-yes _ _ k ∙ h
 
--- an engine that stands still is sound whatever the control registers say
+-- a stopped engine is sound whatever the control registers say
 stopped-sound : (c : Control) (e : Engine) → ControlFacts c (enabledOf c) → stoppedSound e ≡ true → engineSound (settingsOf c) e ≡ true
 unfolding engineSound settingsOf
 stopped-sound c e t h =
@@ -490,7 +494,7 @@ step-enabled d pins h k =
     (step-pick F s (s .slave) _ _
     (step-slave F s (d .engine) (d .pins .oldest) (d .pins .middle) (nextWord (d .registers)) t n)
     (step-master F s (d .engine) (waitingOf (d .registers)) (nextWord (d .registers)) (pins .rxd) t n))
-    (step-still F s cleared (engine-cleared F s (let p = t .elapsed in omega arith)))
+    (step-none F s cleared (engine-cleared F s (let p = t .elapsed in omega arith)))
 
 cycle-enabled : (d : DeviceModel) (pins : Pins) → soundDevice d ≡ true → enabledOf (d .registers .control) ≡ true → EngineFacts (deviceFits d ≡ true) (settingsOf (d .registers .control)) (cycleOf d pins .engine)
 unfolding cycleOf endOf

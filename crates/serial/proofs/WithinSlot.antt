@@ -39,6 +39,10 @@ step-within s e waiting next rxd h =
 abbrev pub elapsedAt : ℕ → Engine → Engine
 elapsedAt c e = withElapsed e (cycles c)
 
+-- in idle slot n
+abbrev pub parked : ℕ → Engine
+parked n = withSlot cleared (slots n)
+
 -- in slot n of a frame
 abbrev pub sending : ℕ → Shift → Engine
 sending n x = withFrame (withSlot cleared (slots n)) true x

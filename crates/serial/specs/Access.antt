@@ -1,7 +1,7 @@
 -- Register accesses to a device. They fall between cycles: pins and lines stay.
 use Prim.Native.Nat.{ℕ}
 use mathlib.Core.Path.{_≡_}
-use mathlib.Core.Bool.{Bool, not, _&&_}
+use mathlib.Core.Bool.{not, _&&_}
 use Rattle.registers.specs.Choose.{pick}
 use Rattle.registers.specs.Offsets.{registerOf}
 use Rattle.registers.specs.Settings.{enabledOf}
@@ -18,6 +18,7 @@ use Rattle.serial.specs.declared.access.Written.{Written}
 unfoldable pub readAnswerOf : DeviceModel → ℕ → Answer
 readAnswerOf d o = readAnswer (d .registers) (d .engine .frame) o
 
+-- Only a DR read that gives a word changes a device, and of it the register file alone.
 unfoldable pub readDevice : DeviceModel → ℕ → DeviceModel
 readDevice d o = withRegisters d (readModel (d .registers) o)
 
@@ -29,15 +30,18 @@ writeRefusalOf d o v = writeRefusal (d .registers) (activeDevice d) (registerOf 
 unfoldable pub engineAfter : Model → Model → Engine → Engine
 engineAfter old new e = pick (enabledOf (old .control) && not (enabledOf (new .control))) cleared e
 
+-- A write changes the register file, and the engine if it clears SSE; a refused one changes nothing.
 unfoldable pub writeDevice : DeviceModel → ℕ → ℕ → DeviceModel
 writeDevice d o v =
     let m = writeModel (d .registers) (activeDevice d) o v in
     withEngine (withRegisters d m) (engineAfter (d .registers) m (d .engine))
 
+-- A read: its answer, and the device after it.
 pub record Read (d : DeviceModel) (o : ℕ) (r : Reading) : Type 0 where
   pub answer : r .answer ≡ readAnswerOf d o
   pub device : deviceOf (r .device) ≡ readDevice d o
 
+-- A write: its refusal number, and the device after it.
 pub record Write (d : DeviceModel) (o v : ℕ) (r : Written) : Type 0 where
   pub refusal : r .refusal ≡ writeRefusalOf d o v
   pub device : deviceOf (r .device) ≡ writeDevice d o v

@@ -1,6 +1,5 @@
 -- A device, and one cycle of it.
 use Prim.Native.Nat.{ℕ}
-use mathlib.Core.Path.{_≡_}
 use mathlib.Core.Bool.{Bool, true, false}
 use mathlib.Core.List.{List, [], _∷_, map}
 use Rattle.registers.specs.Choose.{pick}
@@ -28,6 +27,7 @@ pub record DeviceModel : Type 0 where
   -- the lines of the last cycle
   pub lines : Lines
 
+-- What a device of the code stands for.
 unfoldable pub deviceOf : Device → DeviceModel
 deviceOf d = record { registers = modelOf (d .registers); engine = d .engine; pins = d .pins; lines = d .lines }
 
@@ -111,6 +111,7 @@ abbrev pub run : DeviceModel → List Pins → List DeviceModel
 run d [] = []
 run d (p ∷ ps) = cycleOf d p ∷ run (cycleOf d p) ps
 
+-- The last device of a run; of a run of no cycles, the device that it started from.
 abbrev pub lastOf : DeviceModel → List DeviceModel → DeviceModel
 lastOf d [] = d
 lastOf d (x ∷ xs) = lastOf x xs

@@ -1,4 +1,4 @@
--- Demand 3 as a statement: what is compared, from which starts, over which lists of steps. No proof stands here: `demand3` of proofs/Exchange/Claim.antt proves the first part, `enabling-injective` of proofs/Drawing/Enabled.antt the last sentence; the record's crate carries both to records and output bytes.
+-- Demand 3 as a statement: what is compared, from which starts, over which lists of steps. No proof stands here: `demand3` of proofs/Exchange/Claim.antt proves the first part, `enabling-injective` of proofs/Drawing/Enabled.antt the last sentence, `enabling-recorded` there what a load's recording is; the record's crate carries both to records and output bytes.
 use Prim.Native.Nat.{ℕ, zero, suc, _+_, _*_, _≤_, _<_}
 use mathlib.Core.Path.{_≡_}
 use mathlib.Core.Bool.{Bool, true, false}
@@ -18,7 +18,7 @@ use Rattle.serial.specs.Cycle.{DeviceModel, completedOf, recording}
 use Rattle.serial.specs.Access.{readDevice, writeDevice}
 use Rattle.serial.specs.Busy.{busyDevice}
 use Rattle.serial.specs.Sound.{soundDevice}
-use Rattle.serial.specs.Drawing.{slotTotal}
+use Rattle.serial.specs.Drawing.{idle, drawing, slotTotal, stretch}
 use Rattle.frames.specs.Bits.{cut}
 use Rattle.frames.specs.Lines.{byteOf}
 use Rattle.frames.specs.Slots.{widthOf, captureWidth}
@@ -38,7 +38,7 @@ pub data Step : Type 0 where
   read : Which → ℕ → Step
   write : Which → ℕ → ℕ → Step
 
--- Each step starts from what the last one left.
+-- What a step leaves; an access leaves the other device as it was.
 abbrev pub play : Step → PairModel → PairModel
 play cycle p = pairCycle p
 play (read master o) p = record { first = readDevice (p .first) o; second = p .second }
@@ -46,6 +46,7 @@ play (read slave o) p = record { first = p .first; second = readDevice (p .secon
 play (write master o v) p = record { first = writeDevice (p .first) o v; second = p .second }
 play (write slave o v) p = record { first = p .first; second = writeDevice (p .second) o v }
 
+-- Each step starts from what the last one left.
 abbrev pub plays : List Step → PairModel → PairModel
 plays [] p = p
 plays (x ∷ xs) p = plays xs (play x p)
@@ -103,6 +104,7 @@ pub record Start (p : PairModel) : Type 0 where
 
 -- What is compared -----------------------------------------------------------------------------------------------------
 
+-- The master or the slave of a pair.
 abbrev pub side : Which → PairModel → DeviceModel
 side master p = p .first
 side slave p = p .second
@@ -111,19 +113,21 @@ side slave p = p .second
 abbrev pub busy : Which → PairModel → Bool
 busy d p = busyDevice (side d p)
 
--- The words that a device completes in a pair cycle, and in n of them.
+-- The words that a device completes in a pair cycle: none or one.
 abbrev pub completed : Which → PairModel → List ℕ
 completed master p = completedOf (p .first) (wire (p .second .lines))
 completed slave p = completedOf (p .second) (wire (p .first .lines))
 
+-- The words that a device completes in n pair cycles, whether its queue keeps them or not.
 abbrev pub received : Which → ℕ → PairModel → List ℕ
 received d zero p = []
 received d (suc n) p = completed d p ++ received d n (pairCycle p)
 
--- A load is the transmit queue at the master's enabling, oldest word first; held are the words in the receive queue then.
+-- A load is the transmit queue at the master's enabling, oldest word first.
 abbrev pub load : Which → PairModel → List ℕ
 load d g = side d g .registers .tx
 
+-- Held are the words in the receive queue then.
 abbrev pub held : Which → PairModel → List ℕ
 held d g = side d g .registers .rx
 
@@ -161,17 +165,18 @@ pub record Exchanged (g : PairModel) : Type 0 where
   pub master-received : (j : ℕ) → Received (settingsOf (controlOf master g)) (at .0 + j) master g
   pub slave-received : (j : ℕ) → Received (settingsOf (controlOf master g)) (at .0 + j) slave g
 
--- The states on the way: four or more cycles and any accesses; the slave's enabling; cycles and accesses; the master's enabling, the last access.
-abbrev pub slaveOn : List Step → PairModel → PairModel
-slaveOn pre p = play (enables slave (plays pre p)) (plays pre p)
+-- The pair after the slave's enabling; before it come cycles and any accesses.
+abbrev pub slaveEnabled : List Step → PairModel → PairModel
+slaveEnabled pre p = play (enables slave (plays pre p)) (plays pre p)
 
-abbrev pub masterOn : List Step → List Step → PairModel → PairModel
-masterOn pre mid p = play (enables master (plays mid (slaveOn pre p))) (plays mid (slaveOn pre p))
+-- The pair after the master's enabling, the last access; before it come more cycles and accesses.
+abbrev pub masterEnabled : List Step → List Step → PairModel → PairModel
+masterEnabled pre mid p = play (enables master (plays mid (slaveEnabled pre p))) (plays mid (slaveEnabled pre p))
 
 -- The first part.
 abbrev pub Demand3 : Type 0
 Demand3 =
-    (p : PairModel) (pre mid : List Step) → Start p → 4 ≤ cyclesIn pre → Stays pre p → Stays mid (slaveOn pre p) → Exchanged (masterOn pre mid p)
+    (p : PairModel) (pre mid : List Step) → Start p → 4 ≤ cyclesIn pre → Stays pre p → Stays mid (slaveEnabled pre p) → Exchanged (masterEnabled pre mid p)
 
 -- The last sentence ----------------------------------------------------------------------------------------------------
 
@@ -195,3 +200,12 @@ LastSentence =
     → WholeLoad s (writeDevice d o v) ps → WholeLoad s (writeDevice d′ o′ v′) qs
     → map byteOf (recording (writeDevice d o v) ps) ≡ map byteOf (recording (writeDevice d′ o′ v′) qs)
     → map (cut (widthOf s)) (writeDevice d o v .registers .tx) ≡ map (cut (widthOf s)) (writeDevice d′ o′ v′ .registers .tx)
+
+-- The recording of a load ------------------------------------------------------------------------------------------------
+
+-- From the write that enables a master on, its lines are the drawing of its load, each entry for h cycles, and idle ones behind it, whatever the input pins carry.
+abbrev pub Recorded : Type 0
+Recorded =
+    (s : Settings) (d : DeviceModel) (o v : ℕ) → Enabling s d o v → (ps : List Pins) (k : ℕ)
+    → length ps ≡ cyclesOf (slotTotal s (length (writeDevice d o v .registers .tx))) (s .divisor) .0 + k
+    → recording (writeDevice d o v) ps ≡ stretch (s .divisor .0) (drawing s (writeDevice d o v .registers .tx)) ++ replicate k (idle s)

@@ -11,9 +11,7 @@ use Rattle.registers.specs.declared.settings.Format.the-variants.{Motorola, Ti,
 use Rattle.registers.specs.declared.settings.Settings.{Settings}
 use Rattle.frames.specs.Bits.{bitOf}
 use Rattle.frames.specs.Lines.{idleOn, clockOn}
-use Rattle.serial.specs.Cycle.{DeviceModel, cycleOf}
 use Rattle.frames.specs.declared.lines.Lines.{Lines}
-use Rattle.frames.specs.declared.lines.Pins.{Pins}
 
 -- Slots for n preloaded words, idle ones included: n(2b+4) for Motorola SPH 0, 2bn+4 for SPH 1, 2bn+2 for TI, n(2b+18)+3 for Microwire.
 abbrev pub totalOn : Format → Bool → ℕ → ℕ → ℕ
@@ -31,6 +29,7 @@ slotTotal s (suc n) = slots (totalOn (s .format) (s .phase) (s .bits) (suc n))
 abbrev pub low : Settings → Bool → Bool → Lines
 low s clk txd = record { clk = clockOn (s .format) (s .polarity) clk; fss = false; txd = txd; released = false }
 
+-- The idle lines of a master.
 abbrev pub idle : Settings → Lines
 idle s = idleOn (s .format) (s .polarity)
 
@@ -45,6 +44,7 @@ frame0 s w =
     low s false false
     ∷ (bitLines (low s false) (low s true) (s .bits) w 0 (s .bits) ++ (low s false (bitOf (s .bits) w (s .bits - 1)) ∷ idle s ∷ idle s ∷ []))
 
+-- Each word of a load has a frame of its own.
 abbrev pub frames0 : Settings → List ℕ → List Lines
 frames0 s [] = []
 frames0 s (w ∷ ws) = frame0 s w ++ frames0 s ws
@@ -60,10 +60,11 @@ abbrev pub frames1 : Settings → List ℕ → List Lines
 frames1 s [] = []
 frames1 s (w ∷ ws) = low s false false ∷ chain1 s w ws
 
--- TI's slots 0 and 1 of a first word, and of a word joined to the one before, whose last bit is still on TXD.
+-- TI's slots 0 and 1 of a first word: FSS HIGH, TXD LOW, nSSPOE HIGH.
 abbrev pub marked : Bool → Lines
 marked clk = record { clk = clk; fss = true; txd = false; released = true }
 
+-- TI's slots 0 and 1 of a word joined to the one before, whose last bit is still on TXD.
 abbrev pub held : Bool → Bool → Lines
 held clk txd = record { clk = clk; fss = true; txd = txd; released = false }
 
@@ -76,14 +77,16 @@ joined s w (u ∷ ws) =
     bitLines (low s true) (low s false) (s .bits) w 0 (s .bits - 1)
     ++ (held true (bitOf (s .bits) w (s .bits - 1)) ∷ held false (bitOf (s .bits) w (s .bits - 1)) ∷ joined s u ws)
 
+-- The first word has slots 0 and 1 of its own; every other word is joined to the one before.
 abbrev pub framesTi : Settings → List ℕ → List Lines
 framesTi s [] = []
 framesTi s (w ∷ ws) = marked true ∷ marked false ∷ joined s w ws
 
--- Microwire past the control bits: TXD LOW, nSSPOE HIGH; n times CLK LOW, then HIGH.
+-- Microwire past the control bits: FSS and TXD LOW, nSSPOE HIGH.
 abbrev pub quiet : Bool → Lines
 quiet clk = record { clk = clk; fss = false; txd = false; released = true }
 
+-- Two such slots n times: CLK LOW, then HIGH.
 abbrev pub quiets : ℕ → List Lines
 quiets zero = []
 quiets (suc n) = quiet false ∷ quiet true ∷ quiets n
@@ -94,17 +97,19 @@ abbrev pub chainM : Settings → List ℕ → List Lines
 chainM s [] = quiet false ∷ idle s ∷ idle s ∷ []
 chainM s (w ∷ ws) = bitLines (low s false) (low s true) 8 w 0 8 ++ (quiets (s .bits + 1) ++ chainM s ws)
 
+-- The lines of a load; an empty one has no slot, not even an idle one.
 abbrev pub framesM : Settings → List ℕ → List Lines
 framesM s [] = []
 framesM s (w ∷ ws) = chainM s (w ∷ ws)
 
+-- The lines of a load by the format's slot table, one entry a slot, idle slots included.
 abbrev pub drawingOn : Format → Bool → Settings → List ℕ → List Lines
 drawingOn Motorola phase s ws = pick phase (frames1 s ws) (frames0 s ws)
 drawingOn Ti phase s ws = framesTi s ws
 drawingOn Microwire phase s ws = framesM s ws
 drawingOn Reserved phase s ws = []
 
--- The lines of a load, one entry a slot, from its first slot to its last idle one.
+-- The lines of a load under these settings, one entry a slot, from its first slot to its last.
 unfoldable pub drawing : Settings → List ℕ → List Lines
 drawing s ws = drawingOn (s .format) (s .phase) s ws
 

@@ -1,6 +1,6 @@
 -- Two devices wired together.
 use Prim.Native.Nat.{ℕ, zero, suc}
-use mathlib.Core.Bool.{Bool, not, _&&_}
+use mathlib.Core.Bool.{not, _&&_}
 use Rattle.serial.specs.Cycle.{DeviceModel, deviceOf, cycleOf}
 use Rattle.serial.specs.declared.pair.Wired.{Wired}
 use Rattle.frames.specs.declared.lines.Lines.{Lines}
@@ -10,6 +10,7 @@ use Rattle.frames.specs.declared.lines.Pins.{Pins}
 unfoldable pub wire : Lines → Pins
 wire l = record { clk = l .clk; fss = l .fss; rxd = l .txd && not (l .released) }
 
+-- Two devices, each wired to the other.
 pub record PairModel : Type 0 where
   pub first : DeviceModel
   pub second : DeviceModel

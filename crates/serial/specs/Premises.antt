@@ -5,12 +5,13 @@ use mathlib.Core.Bool.{true, false}
 use mathlib.Core.List.{List, [], _∷_}
 use lib.ListN.{replicate}
 use Rattle.registers.specs.Time.{divisor}
+use Rattle.registers.specs.Settings.{settingsBy}
 use Rattle.registers.specs.declared.settings.Format.the-variants.{Motorola}
 use Rattle.registers.specs.declared.settings.Settings.{Settings}
 use Rattle.serial.specs.Cycle.{DeviceModel, lowPins, resetDevice}
 use Rattle.serial.specs.Access.{writeDevice}
 use Rattle.serial.specs.Pair.{PairModel}
-use Rattle.serial.specs.Demand3.{Step, cyclesIn, Stays, Start, load, slaveOn, masterOn, Enabling, WholeLoad}
+use Rattle.serial.specs.Demand3.{Step, cyclesIn, Stays, Start, load, slaveEnabled, masterEnabled, Enabling, WholeLoad}
 use Rattle.serial.specs.Demand3.Which.{master, slave}
 use Rattle.serial.specs.Demand3.Step.{cycle, read}
 use Rattle.frames.specs.declared.lines.Pins.{Pins}
@@ -47,26 +48,15 @@ pub record PairPremises : Type 0 where
   pub start : Start preparedPair
   pub four : 4 ≤ cyclesIn before
   pub stays-before : Stays before preparedPair
-  pub stays-between : Stays between (slaveOn before preparedPair)
-  pub load-master : load master (masterOn before between preparedPair) ≡ 0xA ∷ 0x5 ∷ []
-  pub load-slave : load slave (masterOn before between preparedPair) ≡ 0x3 ∷ 0xC ∷ []
+  pub stays-between : Stays between (slaveEnabled before preparedPair)
+  pub load-master : load master (masterEnabled before between preparedPair) ≡ 0xA ∷ 0x5 ∷ []
+  pub load-slave : load slave (masterEnabled before between preparedPair) ≡ 0x3 ∷ 0xC ∷ []
 
 -- The last sentence ----------------------------------------------------------------------------------------------------
 
--- The settings of that master, enabled.
+-- The settings of that master, enabled: Motorola, SPH 0, SPO 0, b = 4, h = 6, MS, SOD and LBM 0, SSE 1.
 abbrev pub enabledMaster : Settings
-enabledMaster =
-    record {
-      format = Motorola;
-      phase = false;
-      polarity = false;
-      bits = 4;
-      divisor = divisor 6;
-      slave = false;
-      sod = false;
-      loopback = false;
-      enabled = true;
-    }
+enabledMaster = settingsBy Motorola false false 4 (divisor 6) false false false true
 
 -- Pins LOW for the slot total times h cycles: 2(2b + 4) slots, 144 cycles.
 abbrev pub lowInputs : List Pins

@@ -1,7 +1,7 @@
 -- What a slave does in a cycle: it sees each pin as it stood two cycles earlier, and an edge against the cycle before.
 use Prim.Native.Nat.{ℕ, _+_}
 use mathlib.Core.Bool.{Bool, true, false, not, _&&_, _||_}
-use lib.Dec.{ltb, leb, eqb}
+use lib.Dec.{ltb, leb}
 use Rattle.registers.specs.Choose.{pick}
 use Rattle.registers.specs.declared.settings.Format.{Format}
 use Rattle.registers.specs.declared.settings.Format.the-variants.{Motorola, Ti, Microwire, Reserved}
@@ -37,17 +37,19 @@ unfoldable pub motorolaSelect : Settings → Engine → Bool → ℕ → Step
 motorolaSelect s e fell next =
     pick fell (pick (s .phase) (noWord (selectedOf e)) (slaveTake s (selectedOf e) (s .enabled) next)) (noWord e)
 
--- The clock edge to the active level, and the one back.
+-- The clock edge from the idle level, SPO, to the active one.
 abbrev pub toActive : Settings → Pins → Pins → Bool
 toActive s before seen = not (differ (before .clk) (s .polarity)) && differ (seen .clk) (s .polarity)
 
+-- The clock edge back to the idle level.
 abbrev pub toIdle : Settings → Pins → Pins → Bool
 toIdle s before seen = differ (before .clk) (s .polarity) && not (differ (seen .clk) (s .polarity))
 
--- SPH 0 captures at edges to active and drives at the others; SPH 1 the other way round.
+-- SPH 0 captures at edges to active, SPH 1 at edges to idle.
 unfoldable pub captureEdge : Settings → Pins → Pins → Bool
 captureEdge s before seen = pick (s .phase) (toIdle s before seen) (toActive s before seen)
 
+-- At the other edges it drives: SPH 0 at edges to idle, SPH 1 at edges to active.
 unfoldable pub driveEdge : Settings → Pins → Pins → Bool
 driveEdge s before seen = pick (s .phase) (toActive s before seen) (toIdle s before seen)
 
@@ -78,6 +80,7 @@ motorolaSlave s e before seen next =
 
 -- TI -------------------------------------------------------------------------------------------------------------------
 
+-- The engine with its mark replaced: a start was seen, or not.
 abbrev pub withMark : Engine → Bool → Engine
 withMark e m = record { slot = e .slot; elapsed = e .elapsed; frame = e .frame; selected = e .selected; mark = m; shift = e .shift }
 
@@ -97,6 +100,7 @@ tiRises s e next =
     (pick (e .frame) (slaveDrive s e)
     (noWord e))
 
+-- Falling edges of CLK capture bits and mark starts, rising ones take words and drive bits.
 unfoldable pub tiSlave : Settings → Engine → Pins → Pins → ℕ → Step
 tiSlave s e before seen next =
     pick (before .clk && not (seen .clk)) (tiFalls s e (seen .fss) (dataBit s (e .shift .level) (seen .rxd)))

@@ -1,5 +1,4 @@
 -- A sound device: the soundness list, but for what only bytes can break (flags, levels, unused places, spare bytes). Shift words, held level, pins and last lines are free.
-use Prim.Native.Nat.{ℕ}
 use mathlib.Core.Bool.{Bool, not, _&&_}
 use lib.Dec.{ltb, leb, eqb}
 use Rattle.registers.specs.Choose.{pick}
@@ -17,13 +16,15 @@ stoppedSound e =
     ((not (e .frame) && not (e .selected)) && not (e .mark))
     && ((eqb (e .slot .0) 0 && eqb (e .elapsed .0) 0) && eqb (e .shift .captured) 0)
 
--- Where the engine is active: slot number at most the format's last, cycles gone in the slot below h, captured bits at most the width of a received word, b.
+-- Where the engine is active: slot number at most the format's last, elapsed cycles of the slot below h, captured bits at most the width of a received word, b.
 unfoldable pub runningSound : Settings → Engine → Bool
 runningSound s e = (leb (e .slot .0) (lastSlot s .0) && ltb (e .elapsed .0) (s .divisor .0)) && leb (e .shift .captured) (captureWidth s)
 
+-- A sound engine: within its bounds while active, with no frame and zero counts while not.
 unfoldable pub engineSound : Settings → Engine → Bool
 engineSound s e = pick (activeOf s e) (runningSound s e) (stoppedSound e)
 
+-- A sound device: its register file and its engine are sound.
 unfoldable pub soundDevice : DeviceModel → Bool
 soundDevice d = soundRegisters (d .registers) (activeDevice d) && engineSound (settingsOf (d .registers .control)) (d .engine)
 

@@ -6,7 +6,7 @@ use crate::Device;
 use frames::engine::Engine;
 use registers::settings::Settings;
 
-// With SSE clear: no frame, no selection, no TI mark; slot, cycle and bit counts 0.
+// Where the engine is not active: no frame, no selection, no TI mark; slot, cycle and bit counts 0.
 fn stopped_sound(e: Engine) -> bool
     ensures { λ s. ⌜ s ≡ stoppedSound e ⌝ }
 {
@@ -14,7 +14,7 @@ fn stopped_sound(e: Engine) -> bool
         & (((e.slot.0 == 0) & (e.elapsed.0 == 0)) & (e.shift.captured == 0))
 }
 
-// With SSE set: slot number at most the last, cycles gone below h, captured bits at most b.
+// Where the engine is active: slot number at most the last, elapsed cycles below h, captured bits at most those of a received word.
 fn running_sound(s: Settings, e: Engine) -> bool
     ensures { λ r. ⌜ r ≡ runningSound s e ⌝ }
 {

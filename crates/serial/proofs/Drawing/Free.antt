@@ -151,7 +151,7 @@ module _ (s : Settings) where
 
 -- The first BSY 0 of a load ----------------------------------------------------------------------------------------------
 
--- Busy with `last` cycles gone, free one cycle later.
+-- Busy with `last` cycles elapsed, free one cycle later.
 record Frees (s : Settings) (x : Solo) (at : ℕ) : Type 0 where
   last : ℕ
   next : suc last ≡ at

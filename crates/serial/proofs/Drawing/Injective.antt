@@ -1,4 +1,4 @@
--- A drawing tells its load: equal drawings are of loads that are equal after cutting.
+-- A drawing determines its load: equal drawings are of loads that are equal after cutting.
 use Prim.Native.Nat.{ℕ, zero, suc, _+_, _-_, _*_, _≤_, _<_}
 use mathlib.Core.Path.{_≡_, refl, sym, ap, ap₂, _∙_}
 use mathlib.Core.Bool.{Bool, true, false}
@@ -313,7 +313,7 @@ byte-back false false true false = refl
 byte-back false false false true = refl
 byte-back false false false false = refl
 
--- An output byte tells its lines.
+-- An output byte determines its lines.
 pub byte-injective : (l k : Lines) → byteOf l ≡ byteOf k → l ≡ k
 byte-injective l k e =
     sym (byte-back (l .clk) (l .fss) (l .txd) (l .released)) ∙ ap linesAt e ∙ byte-back (k .clk) (k .fss) (k .txd) (k .released)

@@ -1,12 +1,10 @@
 -- A Microwire master alone draws its load.
-use Prim.Native.Nat.{ℕ, zero, suc, _+_, _*_, _/_, _%_, _<_}
+use Prim.Native.Nat.{ℕ, zero, suc, _+_, _*_, _<_}
 use mathlib.Core.Path.{_≡_, refl, sym, ap}
-use mathlib.Core.Bool.{Bool, true, false, and-false, not, _&&_}
+use mathlib.Core.Bool.{Bool, true, false, not, _&&_}
 use mathlib.Core.List.{List, [], _∷_}
 use native.Mathlib.Omega.{arith}
 use native.Mathlib.Numerals.{add-one}
-use lib.Dec.{leb}
-use borrow.Author.Tests.{eq-eqb, ne-eqb, lt-ltb, le-ltb, le-leb, lt-leb}
 use Rattle.registers.specs.Time.{slots}
 use Rattle.registers.specs.declared.settings.Format.the-variants.{Microwire}
 use Rattle.registers.specs.declared.settings.Settings.{Settings}
@@ -18,69 +16,13 @@ use Rattle.frames.specs.Master.{chainStep}
 use Rattle.serial.specs.Drawing.{low, idle, bitLines, quiet, quiets, chainM, framesM}
 use Rattle.serial.proofs.Cycles.{waits-cons}
 use Rattle.serial.proofs.WithinSlot.{sending, shifted}
+use Rattle.serial.proofs.Events.{microwire-drive, microwire-hold, microwire-wait, microwire-low, microwire-capture, microwire-chain, microwire-release, lowLevels, microwire-levels-even, microwire-levels-odd, microwire-levels-low, microwire-levels-high}
 use Rattle.serial.proofs.Unreceived.{stepWithoutReceived}
 use Rattle.serial.proofs.Drawing.Solo.{Solo}
 use Rattle.serial.proofs.Drawing.Slot.{fixed, solo, on, restAt, Slot, Draws, done, draw, draws-end, draws-same, slot-on, slot-start, capture-move, word-run, Over, over, Until, until-done, until-draw, until-then}
 use Rattle.frames.specs.declared.engine.Shift.{Shift}
 use Rattle.frames.specs.declared.slots.Levels.{Levels}
-use Rattle.frames.specs.declared.slots.Event.the-variants.{BeginDrive, Drive, Capture, Chain, Quiet, Release, Pause}
-
--- The slot table read at the slots of a bit ------------------------------------------------------------------------------
-
-module _ (b n : ℕ) where
-  microwire-drive : (i : ℕ) → n ≡ 2 * i → 0 < i → i < 8 → microwireEvent b n ≡ Drive i
-  unfolding microwireEvent
-  microwire-drive i e l m =
-      let q : n / 2 ≡ i = omega arith in
-      rw (ne-eqb n 0 (omega arith), lt-ltb n 16 (omega arith), eq-eqb (n % 2) 0 (omega arith), q)
-
-  microwire-hold : (i : ℕ) → n ≡ 2 * i + 1 → i < 8 → microwireEvent b n ≡ Pause
-  unfolding microwireEvent
-  microwire-hold i e m = rw (ne-eqb n 0 (omega arith), lt-ltb n 16 (omega arith), ne-eqb (n % 2) 0 (omega arith))
-
-  microwire-wait : n ≡ 17 → microwireEvent b n ≡ Pause
-  unfolding microwireEvent
-  microwire-wait e =
-      rw (ne-eqb n 0 (omega arith), le-ltb n 16 (omega arith), ne-eqb n 16 (omega arith), lt-ltb n (18 + 2 * b) (omega arith), lt-leb 19 n (omega arith))
-
-  microwire-low : (j : ℕ) → n ≡ 2 * j + 18 → j < b → microwireEvent b n ≡ Pause
-  unfolding microwireEvent
-  microwire-low j e m =
-      rw (ne-eqb n 0 (omega arith), le-ltb n 16 (omega arith), ne-eqb n 16 (omega arith), lt-ltb n (18 + 2 * b) (omega arith), ne-eqb (n % 2) 1 (omega arith), and-false (leb 19 n))
-
-  microwire-capture : (j : ℕ) → n ≡ 2 * j + 19 → j < b → microwireEvent b n ≡ Capture
-  unfolding microwireEvent
-  microwire-capture j e m =
-      rw (ne-eqb n 0 (omega arith), le-ltb n 16 (omega arith), ne-eqb n 16 (omega arith), lt-ltb n (18 + 2 * b) (omega arith), le-leb 19 n (omega arith), eq-eqb (n % 2) 1 (omega arith))
-
-  microwire-chain : n ≡ 2 * b + 18 → microwireEvent b n ≡ Chain (slots 0)
-  unfolding microwireEvent
-  microwire-chain e =
-      rw (ne-eqb n 0 (omega arith), le-ltb n 16 (omega arith), ne-eqb n 16 (omega arith), le-ltb n (18 + 2 * b) (omega arith), eq-eqb n (18 + 2 * b) (omega arith))
-
-  microwire-release : n ≡ 2 * b + 19 → microwireEvent b n ≡ Release
-  unfolding microwireEvent
-  microwire-release e =
-      rw (ne-eqb n 0 (omega arith), le-ltb n 16 (omega arith), ne-eqb n 16 (omega arith), le-ltb n (18 + 2 * b) (omega arith), ne-eqb n (18 + 2 * b) (omega arith), eq-eqb n (19 + 2 * b) (omega arith))
-
-abbrev levels : Bool → Bool → Levels
-levels c r = record { clk = c; fss = false; released = r }
-
-levels-even : (n i : ℕ) → n ≡ 2 * i → i < 8 → microwireLevels n ≡ levels false false
-unfolding microwireLevels
-levels-even n i e l = rw (ne-eqb (n % 2) 1 (omega arith), lt-leb 16 n (omega arith))
-
-levels-odd : (n i : ℕ) → n ≡ 2 * i + 1 → i < 8 → microwireLevels n ≡ levels true false
-unfolding microwireLevels
-levels-odd n i e l = rw (eq-eqb (n % 2) 1 (omega arith), lt-leb 16 n (omega arith))
-
-levels-low : (n i : ℕ) → n ≡ 2 * i + 16 → microwireLevels n ≡ levels false true
-unfolding microwireLevels
-levels-low n i e = rw (ne-eqb (n % 2) 1 (omega arith), le-leb 16 n (omega arith))
-
-levels-high : (n i : ℕ) → n ≡ 2 * i + 17 → microwireLevels n ≡ levels true true
-unfolding microwireLevels
-levels-high n i e = rw (eq-eqb (n % 2) 1 (omega arith), le-leb 16 n (omega arith))
+use Rattle.frames.specs.declared.slots.Event.the-variants.{BeginDrive, Drive, Capture, Chain, Quiet, Pause}
 
 -- Slots ------------------------------------------------------------------------------------------------------------------
 
@@ -112,14 +54,14 @@ module _ (s : Settings) (phase : Bool) where
   drive-slot w tx c d l m =
       slot-on S (2 * c) 0 d w tx (Drive c) (2 * c) 0 (bitOf 8 w c) w false (low S false (bitOf 8 w c)) (2 * c + 1)
       (microwire-drive b (2 * c) c refl l m) refl
-      (lines-at (2 * c) 0 (bitOf 8 w c) w (levels false false) (levels-even (2 * c) c refl m)) (omega arith) refl
+      (lines-at (2 * c) 0 (bitOf 8 w c) w (lowLevels false false) (microwire-levels-even (2 * c) c refl m)) (omega arith) refl
 
   hold-slot : (w : ℕ) (tx : List ℕ) (c : ℕ) (d : Bool) → c < 8 → Slot S (mid w tx c d) (low S true d) (st w tx (c + 1) d)
   unfolding eventOf lastSlot
   hold-slot w tx c d m =
       slot-on S (2 * c + 1) 0 d w tx Pause (2 * c + 1) 0 d w false (low S true d) (2 * (c + 1))
       (microwire-hold b (2 * c + 1) c refl m) refl
-      (lines-at (2 * c + 1) 0 d w (levels true false) (levels-odd (2 * c + 1) c refl m)) (omega arith) (omega arith)
+      (lines-at (2 * c + 1) 0 d w (lowLevels true false) (microwire-levels-odd (2 * c + 1) c refl m)) (omega arith) (omega arith)
 
   -- the control bits, however the first comes on TXD
   control-draws : (w : ℕ) (tx : List ℕ) (x : Solo) → Slot S x (low S false (bitOf 8 w 0)) (on 1 0 (bitOf 8 w 0) w tx)
@@ -142,14 +84,14 @@ module _ (s : Settings) (phase : Bool) where
   low-slot w tx j m =
       slot-on S (2 * j + 18) j false w tx Pause (2 * j + 18) j false w false (quiet false) (2 * j + 19)
       (microwire-low b (2 * j + 18) j refl m) refl
-      (lines-at (2 * j + 18) j false w (levels false true) (levels-low (2 * j + 18) (j + 1) (omega arith))) (omega arith) (omega arith)
+      (lines-at (2 * j + 18) j false w (lowLevels false true) (microwire-levels-low (2 * j + 18) (j + 1) (omega arith))) (omega arith) (omega arith)
 
   capture-slot : (w : ℕ) (tx : List ℕ) (j : ℕ) → j < b → Slot S (on (2 * j + 19) j false w tx) (quiet true) (on (2 * (j + 1) + 18) (j + 1) false w tx)
   unfolding eventOf lastSlot
   capture-slot w tx j m =
       slot-on S (2 * j + 19) j false w tx Capture (2 * j + 19) (j + 1) false w false (quiet true) (2 * (j + 1) + 18)
       (microwire-capture b (2 * j + 19) j refl m) (capture-move S b _ (2 * j + 19) j false w m)
-      (lines-at (2 * j + 19) (j + 1) false w (levels true true) (levels-high (2 * j + 19) (j + 1) (omega arith))) (omega arith) (omega arith)
+      (lines-at (2 * j + 19) (j + 1) false w (lowLevels true true) (microwire-levels-high (2 * j + 19) (j + 1) (omega arith))) (omega arith) (omega arith)
 
   data-draws : (w : ℕ) (tx : List ℕ) (i j : ℕ) → j + i ≡ b → Draws S (quiets i) (on (2 * j + 18) j false w tx) (on (2 * b + 18) b false w tx)
   data-draws w tx zero j e =
@@ -167,7 +109,7 @@ module _ (s : Settings) (phase : Bool) where
   end-slot w =
       slot-on S (2 * b + 18) b false w [] (Chain (slots 0)) (2 * b + 18) b false w false (quiet false) (2 * b + 19)
       (microwire-chain b (2 * b + 18) refl) refl
-      (lines-at (2 * b + 18) b false w (levels false true) (levels-low (2 * b + 18) (b + 1) (omega arith))) (omega arith) (omega arith)
+      (lines-at (2 * b + 18) b false w (lowLevels false true) (microwire-levels-low (2 * b + 18) (b + 1) (omega arith))) (omega arith) (omega arith)
 
   is-over : (w : ℕ) → Over S (idle S ∷ idle S ∷ []) (on (2 * b + 19) b false w [])
   unfolding eventOf lastSlot

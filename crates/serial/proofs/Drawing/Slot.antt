@@ -8,19 +8,19 @@ use lib.ListN.{getD, replicate}
 use borrow.Author.Tests.{lt-ltb, ne-eqb}
 use Rattle.registers.specs.Settings.{settingsBy}
 use Rattle.registers.specs.Choose.{pick}
-use Rattle.registers.specs.Time.{cycles, slots}
+use Rattle.registers.specs.Time.{slots}
 use Rattle.registers.specs.Transfer.{rest}
 use Rattle.registers.specs.declared.settings.Format.{Format}
 use Rattle.registers.specs.declared.settings.Settings.{Settings}
 use Rattle.frames.specs.Bits.{bitOf}
-use Rattle.frames.specs.Engine.{clearShift, noWord, capturedOf, captureStep, cleared, withShift, withSlot}
+use Rattle.frames.specs.Engine.{clearShift, noWord, capturedOf, captureStep, cleared, withShift}
 use Rattle.frames.specs.Slots.{eventOf, lastSlot}
 use Rattle.frames.specs.Lines.{masterLines, masterTxd}
 use Rattle.frames.specs.Master.{act, resting, acting, dataBit, masterStep, masterEnd}
 use Rattle.serial.specs.Drawing.{idle, bitLines, stretch}
 use Rattle.serial.proofs.Cycles.{waits, waits-cons}
 use Rattle.serial.proofs.Unreceived.{withoutReceived, stepWithoutReceived}
-use Rattle.serial.proofs.WithinSlot.{step-within, elapsedAt, Live, nextSlot, afterCycles, end-elapsed, after-within, after-last, next-within, next-last, sending, shifted}
+use Rattle.serial.proofs.WithinSlot.{step-within, elapsedAt, Live, nextSlot, afterCycles, end-elapsed, after-within, after-last, next-within, next-last, sending, shifted, parked}
 use Rattle.serial.proofs.Drawing.Solo.{Solo, moves, acted, cycle, shows, Goes, none, more}
 use Rattle.frames.specs.declared.engine.Shift.{Shift}
 use Rattle.frames.specs.declared.engine.Engine.{Engine}
@@ -136,10 +136,6 @@ move n c d w t = record { engine = sending n (shifted c d w 0); takes = t; compl
 abbrev pub restAt : Shift → Engine
 restAt x = withShift cleared x
 
--- idle slot n
-abbrev pub parkAt : ℕ → Engine
-parkAt n = withSlot cleared (slots n)
-
 module _ (s : Settings) where
   next-on : (n k c : ℕ) (d : Bool) (w : ℕ) (tx : List ℕ) → n + 1 ≡ k → n < lastSlot s .0 → solo tx (nextSlot s (sending n (shifted c d w 0))) ≡ on k c d w tx
   next-on n k c d w tx e l = ap (solo tx) (next-within s (sending n (shifted c d w 0)) l) ∙ ap (λ (i : ℕ). on i c d w tx) e
@@ -196,31 +192,31 @@ module _ (s : Settings) where
       }
 
   -- the frame is over
-  pub slot-release : (n c : ℕ) (d : Bool) (w : ℕ) (tx : List ℕ) (k : ℕ) → eventOf s (slots n) ≡ Release → 0 < n → n < lastSlot s .0 → n + 1 ≡ k → Slot s (on n c d w tx) (idle s) (solo tx (parkAt k))
+  pub slot-release : (n c : ℕ) (d : Bool) (w : ℕ) (tx : List ℕ) (k : ℕ) → eventOf s (slots n) ≡ Release → 0 < n → n < lastSlot s .0 → n + 1 ≡ k → Slot s (on n c d w tx) (idle s) (solo tx (parked k))
   unfolding acted moves masterStep acting masterLines masterTxd
   slot-release n c d w tx k e p b z =
       let x = sending n (shifted c d w 0) in
       record {
-        state = solo tx (parkAt n);
+        state = solo tx (parked n);
         acts = ap (λ (r : Step). record { tx = pick (r .takes) (rest tx) tx; engine = r .engine })
             (ap (λ (u : Event). stepWithoutReceived (act s x (waits tx) (getD tx 0 0) (dataBit s (masterTxd s x) false) u)) e);
         begins = refl;
         lines = refl;
         live = ne-eqb n 0 (omega arith);
-        ends = ap (solo tx) (next-within s (parkAt n) b) ∙ ap (λ (i : ℕ). solo tx (parkAt i)) z;
+        ends = ap (solo tx) (next-within s (parked n) b) ∙ ap (λ (i : ℕ). solo tx (parked i)) z;
       }
 
   -- the last idle slot
-  pub slot-pause : (n : ℕ) (tx : List ℕ) → 0 < n → n ≡ lastSlot s .0 → Slot s (solo tx (parkAt n)) (idle s) (solo tx (restAt clearShift))
+  pub slot-pause : (n : ℕ) (tx : List ℕ) → 0 < n → n ≡ lastSlot s .0 → Slot s (solo tx (parked n)) (idle s) (solo tx (restAt clearShift))
   unfolding acted moves masterStep acting resting masterLines masterTxd
   slot-pause n tx p e =
       record {
-        state = solo tx (parkAt n);
+        state = solo tx (parked n);
         acts = rw (ne-eqb n 0 (omega arith));
         begins = refl;
         lines = refl;
         live = ne-eqb n 0 (omega arith);
-        ends = ap (solo tx) (next-last s (parkAt n) (omega arith));
+        ends = ap (solo tx) (next-last s (parked n) (omega arith));
       }
 
   -- a capture

@@ -23,6 +23,7 @@ use Rattle.serial.specs.Cycle.{DeviceModel, deviceStep, stepOf, activeDe
 use Rattle.serial.proofs.Cycles.{control-cycle, step-stopped}
 use Rattle.serial.specs.Access.{writeDevice}
 use Rattle.serial.proofs.Soundness.{sound-registers}
+use Rattle.serial.proofs.Accesses.{engine-enabling}
 use Rattle.serial.specs.Pair.{wire, PairModel, pairCycle, pairRun}
 use Rattle.serial.proofs.Trace.{iterate}
 use Rattle.frames.specs.Bits.{cut}
@@ -34,14 +35,14 @@ use Rattle.serial.proofs.Exchange.Core.{Receiver, Pair, plain, coreCycl
 use Rattle.serial.proofs.Exchange.Settle.{rested}
 use Rattle.serial.proofs.Exchange.Moves.{hidden}
 use Rattle.serial.proofs.Exchange.Turn.{given, turns, turnPins, turnLines, idle-plain, wire-plain}
-use Rattle.serial.proofs.Exchange.Wiring.{holding, starts, Wiring, slave-hidden, still-given}
+use Rattle.serial.proofs.Exchange.Wiring.{holding, starts, Wiring, slave-hidden, stays-idle-given}
 use Rattle.serial.proofs.Exchange.Formats.{wiring-of}
 use Rattle.serial.proofs.Exchange.Busy.{pair-busy, pair-free}
 use Rattle.serial.proofs.Exchange.Finish.{answers, loadCycles, has-received}
 use Rattle.serial.proofs.Exchange.Project.{coreOf, rxOf, Paired, commutes}
-use Rattle.serial.proofs.Exchange.Lead.{Lead, lead-steps, lead-write₁, lead-write₂, engine-on}
+use Rattle.serial.proofs.Exchange.Lead.{Lead, lead-steps, lead-write₁, lead-write₂}
 use Rattle.serial.proofs.Exchange.Enable.{switchedOn, settings-on, control-on}
-use Rattle.serial.specs.Demand3.{Step, plays, cyclesIn, controlOf, Stays, Start, completed, received, load, held, busyFor, Received, Exchanged, slaveOn, masterOn, Demand3}
+use Rattle.serial.specs.Demand3.{Step, plays, cyclesIn, controlOf, Stays, Start, completed, received, load, held, busyFor, Received, Exchanged, slaveEnabled, masterEnabled, Demand3}
 use Rattle.serial.specs.Demand3.Which.{master, slave}
 use Rattle.frames.specs.declared.engine.Engine.{Engine}
 use Rattle.frames.specs.declared.lines.Lines.{Lines}
@@ -120,7 +121,7 @@ module _ (f : Format) (phase p : Bool) (b h k : ℕ) (o : Bool) (c₁ c₂ : Con
   fresh =
       let e = L .first .engine (omega arith) in
       fresh-sound (g .first) (L .first .sound) (ap (λ (s : Settings). s .enabled) (P .master)) (ap (λ (s : Settings). s .slave) (P .master))
-      (record { frame = ap (λ (x : Engine). x .frame) e; slot = ap (λ (x : Engine). x .slot .0) e; elapsed = ap (λ (x : Engine). x .elapsed .0) e })
+      (record { frame = ap (λ (x : Engine). x .frame) e; slot = ap (λ (x : Engine). x .slot .0) e; elapsed = ap (λ (x : Engine). x .elapsed .0) e; captured = ap (λ (x : Engine). x .shift .captured) e })
 
   held-small₁ : length (held master g) ≤ 8
   held-small₁ = sound-elim (g .first .registers) _ (sound-registers (g .first) (L .first .sound)) .rx
@@ -185,13 +186,13 @@ unfolding writeDevice
 control-written d o v = refl
 
 -- a slave that is on, idle, and sees the master's idle lines
-slave-still : {f : Format} {phase : Bool} {b h : ℕ} → Wiring f phase b h → (p : Bool) (k : ℕ) (d : DeviceModel) (x : Pins) → settingsOf (d .registers .control) ≡ given f phase p b k true false → d .engine ≡ cleared
+slave-stays-idle : {f : Format} {phase : Bool} {b h : ℕ} → Wiring f phase b h → (p : Bool) (k : ℕ) (d : DeviceModel) (x : Pins) → settingsOf (d .registers .control) ≡ given f phase p b k true false → d .engine ≡ cleared
     → d .pins .oldest ≡ wire (idleOn f p) → d .pins .middle ≡ wire (idleOn f p) → deviceStep d x ≡ noWord cleared
 unfolding deviceStep stepOf
-slave-still {f = f} {phase = phase} {b = b} W p k d x s e u v =
+slave-stays-idle {f = f} {phase = phase} {b = b} W p k d x s e u v =
     ap₂ (λ (s : Settings) (e : Engine). stepOf s e (d .pins) x (waitingOf (d .registers)) (nextWord (d .registers))) s e
     ∙ ap₂ (λ (u v : Pins). slaveStep (given f phase p b k true false) cleared u v (nextWord (d .registers))) u v
-    ∙ still-given W p k (nextWord (d .registers))
+    ∙ stays-idle-given W p k (nextWord (d .registers))
 
 -- the control registers after a device's enabling
 control-after : (d : DeviceModel) (c : Control) → d .registers .control ≡ c → c .cr1 ≤ 15 → enabledOf c ≡ false → permittedOf (c .cr0) ≡ true → (c .cpsr ≡ 0 → ⊥)
@@ -267,35 +268,35 @@ module _ (p : PairModel) (st : Start p) where
       lead-steps idle₁ idle₂ off₁ 0 (λ n g l c. step-stopped (g .second) (wire (g .first .lines)) (ap enabledOf (c .second .control) ∙ off₂)) pre 0 (cyclesIn pre) p (omega arith) (omega arith) z lead-start
 
   -- the slave on
-  lead-slave : (pre : List Step) → Stays pre p → Lead i hidden (controlOf master p) (switchedOn (controlOf slave p)) (cyclesIn pre) (slaveOn pre p)
+  lead-slave : (pre : List Step) → Stays pre p → Lead i hidden (controlOf master p) (switchedOn (controlOf slave p)) (cyclesIn pre) (slaveEnabled pre p)
   lead-slave pre z =
       let l = lead-pre pre z in
       let g = plays pre p in
       lead-write₂ g l (switchedOn (controlOf slave p)) 0x04 (g .second .registers .control .cr1 + 2)
       (control-after (g .second) (controlOf slave p) (l .second .control) small₂ off₂ (st .permitted-slave) (st .divided-slave))
-      (engine-on (g .second) 0x04 _ (ap enabledOf (l .second .control) ∙ off₂))
+      (engine-enabling (g .second) 0x04 _ (ap enabledOf (l .second .control) ∙ off₂))
 
-  lead-mid : (pre mid : List Step) → 4 ≤ cyclesIn pre → Stays pre p → Stays mid (slaveOn pre p) → Lead i hidden (controlOf master p) (switchedOn (controlOf slave p)) (cyclesIn pre + cyclesIn mid) (plays mid (slaveOn pre p))
+  lead-mid : (pre mid : List Step) → 4 ≤ cyclesIn pre → Stays pre p → Stays mid (slaveEnabled pre p) → Lead i hidden (controlOf master p) (switchedOn (controlOf slave p)) (cyclesIn pre + cyclesIn mid) (plays mid (slaveEnabled pre p))
   lead-mid pre mid four z z′ =
       lead-steps idle₁ idle-on₂ off₁ 4
-      (λ n g l c. slave-still wired (s₁ .polarity) k₂ (g .second) (wire (g .first .lines)) (ap settingsOf (c .second .control) ∙ on₂) (c .second .engine (omega arith)) (c .oldest l) (c .middle (omega arith)))
-      mid (cyclesIn pre) (cyclesIn pre + cyclesIn mid) (slaveOn pre p) refl four z′ (lead-slave pre z)
+      (λ n g l c. slave-stays-idle wired (s₁ .polarity) k₂ (g .second) (wire (g .first .lines)) (ap settingsOf (c .second .control) ∙ on₂) (c .second .engine (omega arith)) (c .oldest l) (c .middle (omega arith)))
+      mid (cyclesIn pre) (cyclesIn pre + cyclesIn mid) (slaveEnabled pre p) refl four z′ (lead-slave pre z)
 
   -- the master on
-  lead-master : (pre mid : List Step) → 4 ≤ cyclesIn pre → Stays pre p → Stays mid (slaveOn pre p)
-      → Lead i hidden (switchedOn (controlOf master p)) (switchedOn (controlOf slave p)) (cyclesIn pre + cyclesIn mid) (masterOn pre mid p)
+  lead-master : (pre mid : List Step) → 4 ≤ cyclesIn pre → Stays pre p → Stays mid (slaveEnabled pre p)
+      → Lead i hidden (switchedOn (controlOf master p)) (switchedOn (controlOf slave p)) (cyclesIn pre + cyclesIn mid) (masterEnabled pre mid p)
   lead-master pre mid four z z′ =
       let l = lead-mid pre mid four z z′ in
-      let g = plays mid (slaveOn pre p) in
+      let g = plays mid (slaveEnabled pre p) in
       lead-write₁ g l (switchedOn (controlOf master p)) 0x04 (g .first .registers .control .cr1 + 2)
       (control-after (g .first) (controlOf master p) (l .first .control) small₁ off₁ (st .permitted-master) (st .divided-master))
-      (engine-on (g .first) 0x04 _ (ap enabledOf (l .first .control) ∙ off₁))
+      (engine-enabling (g .first) 0x04 _ (ap enabledOf (l .first .control) ∙ off₁))
 
 -- Demand 3, its first part.
 pub demand3 : Demand3
 demand3 p pre mid st four z z′ =
     let l = lead-master p st pre mid four z z′ in
     let s = settingsOf (controlOf master p) in
-    exchanged-at (s .format) (s .phase) (s .polarity) (s .bits) (s .divisor .0) (settingsOf (controlOf slave p) .divisor .0) (s .sod) _ _ _ (masterOn pre mid p)
+    exchanged-at (s .format) (s .phase) (s .polarity) (s .bits) (s .divisor .0) (settingsOf (controlOf slave p) .divisor .0) (s .sod) _ _ _ (masterEnabled pre mid p)
     (record { wiring = wired p st; master = ap settingsOf (l .first .control) ∙ on₁ p st; slave = ap settingsOf (l .second .control) ∙ on₂ p st })
     l (omega arith) (st .divisor)

@@ -6,11 +6,11 @@ use mathlib.Core.List.{List, [], _∷_}
 use native.Mathlib.Omega.{arith}
 use borrow.Author.Tests.{ne-eqb, lt-ltb, le-ltb}
 use Rattle.registers.specs.Choose.{pick}
-use Rattle.registers.specs.Time.{cycles, slots}
+use Rattle.registers.specs.Time.{slots}
 use Rattle.registers.specs.Transfer.{rest}
 use Rattle.registers.specs.declared.settings.Format.the-variants.{Motorola}
 use Rattle.frames.specs.Bits.{bitOf, cut}
-use Rattle.frames.specs.Engine.{cleared, clearShift, noWord, loaded, withSlot}
+use Rattle.frames.specs.Engine.{cleared, noWord, loaded}
 use Rattle.frames.specs.Slots.{eventOf, motorolaEvent, lastSlot}
 use Rattle.frames.specs.Lines.{masterLines, slaveLines, masterTxd}
 use Rattle.frames.specs.Master.{act, masterStep, acting, resting, dataBit}
@@ -19,14 +19,13 @@ use Rattle.serial.specs.Pair.{wire}
 use Rattle.serial.proofs.Cycles.{waits, waits-cons}
 use Rattle.serial.proofs.Trace.{none, more, iterate, trace-ever}
 use Rattle.serial.proofs.Exchange.Core.{Receiver, Side, push, moved, acted, slaveSide, coreCycle}
-use Rattle.serial.proofs.WithinSlot.{Live, nextSlot, sending, shifted}
+use Rattle.serial.proofs.WithinSlot.{Live, nextSlot, sending, shifted, parked}
 use Rattle.serial.proofs.Exchange.Settle.{Two, rested, slots-trace}
 use Rattle.serial.proofs.Exchange.Quiet.{lawful-motorola}
 use Rattle.serial.proofs.Events.{motorola-release, levels-first}
-use Rattle.serial.proofs.Exchange.Moves.{Queues, inFrame, hidden, acted-by, slave-by, Slot, slot-of}
-use Rattle.serial.proofs.Exchange.Wiring.{front, holding, Holds, starts, Still, idle-stays}
-use Rattle.serial.proofs.Exchange.Motorola.{sm, ss, filledAt, received, lines-first, calm, ended}
-use Rattle.frames.specs.declared.engine.Engine.{Engine}
+use Rattle.serial.proofs.Exchange.Moves.{Queues, inFrame, hidden, acted-by, received, slave-by, Slot, slot-of}
+use Rattle.serial.proofs.Exchange.Wiring.{front, holding, Holds, starts, StaysIdle, idle-stays}
+use Rattle.serial.proofs.Exchange.Motorola.{sm, ss, filledAt, lines-first, calm, ended}
 use Rattle.frames.specs.declared.engine.Step.{Step}
 use Rattle.frames.specs.declared.slots.Event.the-variants.{Release}
 
@@ -48,9 +47,6 @@ begin-acts phase b h w ws q d =
     ∙ ap (moved r x) (lines-first phase b h (loaded w) (levels-first phase b))
 
 -- FSS is HIGH again
-abbrev pub parked : ℕ → Engine
-parked n = withSlot cleared (slots n)
-
 abbrev pub releasedAt : Queues → ℕ → Two
 releasedAt k n = record { m = record { tx = k .mtx; rx = k .mrx; engine = parked n; lines = hidden }; s = idle k .s }
 
@@ -79,13 +75,13 @@ module _ (phase : Bool) (b h : ℕ) (k : Queues) where
       (rw (le-ltb n (2 * b + 3) (omega arith)))
       refl refl refl
 
-pub still-motorola : (phase : Bool) (b h : ℕ) → Still Motorola phase b h
+pub stays-idle-motorola : (phase : Bool) (b h : ℕ) → StaysIdle Motorola phase b h
 unfolding slaveStep motorolaSlave wire
-still-motorola phase b h n = refl
+stays-idle-motorola phase b h n = refl
 
 -- the last word is through
 abbrev pub finalAt : ℕ → ℕ → Receiver → List ℕ → Receiver → Two
-finalAt b w q vs r = filledAt b w (front vs) (received b w (front vs) (holding [] q (rest vs) r)) (b - 1) false (2 * b + 2)
+finalAt b w q vs r = filledAt b w (front vs) (received b b w (front vs) (holding [] q (rest vs) r)) (b - 1) false (2 * b + 2)
 
 -- from the last capture on nothing changes in the receive queues
 pub ever : (phase : Bool) (b h : ℕ) → 6 ≤ h → (w : ℕ) (q : Receiver) (vs : List ℕ) (r : Receiver) (i : ℕ)
@@ -107,5 +103,5 @@ ever phase b h l w q₀ vs r₀ i =
     (more (record { live = subst (λ (x : Side). Live (x .engine)) (sym (one .acts)) (ne-eqb (2 * b + 2) 0 (omega arith)); before = refl; during = λ j. ap (λ (x : Side). x .rx) (one .acts); slave = refl; sees = one .gets; rests = ap (λ (t : Two). t .s .rx) (one .steps) }) (one .steps)
     (more (record { live = subst (λ (x : Side). Live (x .engine)) (sym (two .acts)) (ne-eqb (2 * b + 2 + 1) 0 (omega arith)); before = refl; during = λ j. ap (λ (x : Side). x .rx) (two .acts); slave = refl; sees = two .gets; rests = ap (λ (t : Two). t .s .rx) (two .steps) }) (two .steps) none)))
     (refl, refl)
-    (idle-stays Motorola phase b h (still-motorola phase b h) q (rest vs) r)
+    (idle-stays Motorola phase b h (stays-idle-motorola phase b h) q (rest vs) r)
     i

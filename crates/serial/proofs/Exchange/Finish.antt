@@ -88,7 +88,7 @@ module _ {f : Format} {phase : Bool} {b h : ℕ} (W : Wiring f phase b h) (l : 6
   meets t live = record { live = live; before = tt; during = λ i. tt; slave = tt; sees = tt; rests = tt }
 
   load-run : (w : ℕ) (ws : List ℕ) (q : Receiver) (vs : List ℕ) (r : Receiver) → iterate (loadCycles (w ∷ ws)) cycle (begins (w ∷ ws) q vs r) ≡ rested (loadEnd w ws q vs r)
-  load-run w ws q vs r = trace-run (slots-trace sm ss (λ x. Unit {0}) (λ x. Unit {0}) (W .lawful) l (idle-settled f phase b h (W .still) (holding (w ∷ ws) q vs r)) (trace-map meets (W .exchange .run w ws q vs r)))
+  load-run w ws q vs r = trace-run (slots-trace sm ss (λ x. Unit {0}) (λ x. Unit {0}) (W .lawful) l (idle-settled f phase b h (W .stays-idle) (holding (w ∷ ws) q vs r)) (trace-map meets (W .exchange .run w ws q vs r)))
 
   load-ever : (w : ℕ) (ws : List ℕ) (q : Receiver) (vs : List ℕ) (r : Receiver) (n : ℕ)
       → Holds (pushAll (map (cut (captureWidth sm)) (answers (w ∷ ws) vs)) q) (pushAll (map (cut (widthOf sm)) (w ∷ ws)) r) (iterate n cycle (rested (loadEnd w ws q vs r)))
@@ -98,7 +98,7 @@ module _ {f : Format} {phase : Bool} {b h : ℕ} (W : Wiring f phase b h) (l : 6
   pub has-received : (ws : List ℕ) (q : Receiver) (vs : List ℕ) (r : Receiver) (n : ℕ) → loadCycles ws ≤ n → length (q .held) ≤ 8 → length (r .held) ≤ 8
       → Holds (kept (map (cut (captureWidth sm)) (answers ws vs)) q) (kept (map (cut (widthOf sm)) ws) r) (iterate n cycle (begins ws q vs r))
   has-received [] q vs r n k p p′ =
-      let e = iterate-fixed cycle (begins [] q vs r) (idle-stays f phase b h (W .still) q vs r) n in
+      let e = iterate-fixed cycle (begins [] q vs r) (idle-stays f phase b h (W .stays-idle) q vs r) n in
       (ap (λ (x : Pair). x .m .rx) e ∙ sym (kept-nil q p), ap (λ (x : Pair). x .s .rx) e ∙ sym (kept-nil r p′))
   has-received (w ∷ ws) q vs r n k p p′ =
       let j = n - loadCycles (w ∷ ws) in

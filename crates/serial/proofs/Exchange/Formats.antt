@@ -13,7 +13,7 @@ use Rattle.serial.specs.Pair.{wire}
 use Rattle.serial.proofs.Exchange.Quiet.{lawful-motorola, lawful-ti}
 use Rattle.serial.proofs.Exchange.Turn.{turned-motorola, turned-ti}
 use Rattle.serial.proofs.Exchange.Wiring.{Wiring}
-use Rattle.serial.proofs.Exchange.Ends.{still-motorola}
+use Rattle.serial.proofs.Exchange.Ends.{stays-idle-motorola}
 use Rattle.serial.proofs.Exchange.Phase0 as phase0
 use Rattle.serial.proofs.Exchange.Phase1 as phase1
 use Rattle.serial.proofs.Exchange.Ti as ti-words
@@ -24,7 +24,7 @@ module _ (b h : ℕ) (l : 4 ≤ b) (m : b ≤ 16) (k : 6 ≤ h) where
   motorola false =
       record {
         lawful = lawful-motorola false b h;
-        still = still-motorola false b h;
+        stays-idle = stays-idle-motorola false b h;
         turned = turned-motorola false b h;
         slots = λ n. n * (2 * b + 4) + (2 * b + 2);
         exchange = phase0.exchange b h (omega arith) m k;
@@ -33,7 +33,7 @@ module _ (b h : ℕ) (l : 4 ≤ b) (m : b ≤ 16) (k : 6 ≤ h) where
   motorola true =
       record {
         lawful = lawful-motorola true b h;
-        still = still-motorola true b h;
+        stays-idle = stays-idle-motorola true b h;
         turned = turned-motorola true b h;
         slots = λ n. 2 * b * suc n + 2;
         exchange = phase1.exchange b h (omega arith) m k;
@@ -45,7 +45,7 @@ module _ (b h : ℕ) (l : 4 ≤ b) (m : b ≤ 16) (k : 6 ≤ h) where
   ti phase =
       record {
         lawful = lawful-ti phase b h;
-        still = λ n. refl;
+        stays-idle = λ n. refl;
         turned = turned-ti phase b h;
         slots = λ n. 2 * b * suc n + 2;
         exchange = ti-words.exchange phase b h (omega arith) m;

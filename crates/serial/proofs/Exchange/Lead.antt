@@ -11,8 +11,8 @@ use Rattle.registers.specs.Model.{Model}
 use Rattle.registers.specs.Offsets.{registerOf}
 use Rattle.registers.specs.Settings.{settingsOf, enabledOf}
 use Rattle.registers.specs.Transfer.{endCycle}
-use Rattle.registers.specs.Access.{readModel, readDone, readRefusal, dataTaken, writeModel, writeDone, writeRefusal, cr0Written, cr1Written, cpsrWritten, icrWritten, drWritten, imscWritten, dmacrWritten}
-use Rattle.registers.proofs.Accesses.{control-read}
+use Rattle.registers.specs.Access.{readModel, dataTaken, writeModel, writeDone, writeRefusal, cr0Written, cr1Written, cpsrWritten, icrWritten, drWritten, imscWritten, dmacrWritten}
+use Rattle.registers.proofs.Accesses.{read-either, control-read}
 use Rattle.registers.specs.declared.Control.{Control}
 use Rattle.registers.specs.declared.offsets.Register.{Register}
 use Rattle.registers.specs.declared.offsets.Register.the-variants.{Cr0, Cr1, Dr, Sr, Cpsr, Imsc, Ris, Mis, Icr, Dmacr, Identity, Reserved, Outside}
@@ -32,25 +32,9 @@ use Rattle.frames.specs.declared.lines.Pins.{Pins}
 
 -- Accesses that leave the control registers leave the engine, the pins and the lines ----------------------------------
 
-read-ror : (m : Model) (p : Register) → readDone m p .ror ≡ m .ror
-unfolding dataTaken
-read-ror m Cr0 = refl
-read-ror m Cr1 = refl
-read-ror m Dr = refl
-read-ror m Sr = refl
-read-ror m Cpsr = refl
-read-ror m Imsc = refl
-read-ror m Ris = refl
-read-ror m Mis = refl
-read-ror m Icr = refl
-read-ror m Dmacr = refl
-read-ror m (Identity i) = refl
-read-ror m Reserved = refl
-read-ror m Outside = refl
-
 ror-read : (m : Model) (o : ℕ) → readModel m o .ror ≡ m .ror
-unfolding readModel
-ror-read m o = pick-both (λ (z : Model). z .ror ≡ m .ror) (eqb (readRefusal m (registerOf o)) 0) _ _ (λ _. read-ror m (registerOf o)) (λ _. refl)
+unfolding dataTaken
+ror-read m o = read-either (λ (x : Model). x .ror ≡ m .ror) m refl o (λ _. refl)
 
 write-ror : (m : Model) (p : Register) (v : ℕ) → m .ror ≡ false → writeDone m p v .ror ≡ false
 unfolding cr0Written cr1Written cpsrWritten icrWritten drWritten imscWritten dmacrWritten
@@ -81,12 +65,7 @@ engine-write : (d : DeviceModel) (o v : ℕ) → enabledOf (writeModel (d .regis
 unfolding writeDevice engineAfter
 engine-write d o v h = ap (λ (t : Bool). pick (enabledOf (d .registers .control) && not t) cleared (d .engine)) h ∙ ap (λ (t : Bool). pick t cleared (d .engine)) (and-not (enabledOf (d .registers .control)))
 
--- and where it was clear
-pub engine-on : (d : DeviceModel) (o v : ℕ) → enabledOf (d .registers .control) ≡ false → writeDevice d o v .engine ≡ d .engine
-unfolding writeDevice engineAfter
-engine-on d o v h = ap (λ (t : Bool). pick (t && not (enabledOf (writeModel (d .registers) (activeDevice d) o v .control))) cleared (d .engine)) h
-
--- A device that is off, or on and still ---------------------------------------------------------------------------------
+-- A device that is off, or on and idle ---------------------------------------------------------------------------------
 
 -- n cycles of it have gone; i are its idle lines
 pub record Resting (i : Lines) (c : Control) (n : ℕ) (d : DeviceModel) : Type 0 where
@@ -146,7 +125,7 @@ module _ {i j : Lines} {c₁ c₂ : Control} {n : ℕ} (g : PairModel) (l : Lead
   unfolding writeDevice
   lead-write₂ c o v e k = record { first = l .first; second = resting-write (l .second) o v e k; newest = l .newest; middle = l .middle; oldest = l .oldest }
 
-  -- a cycle in which both are still
+  -- a cycle in which both stay idle
   lead-cycle : linesOf (settingsOf c₁) cleared ≡ i → linesOf (settingsOf c₂) cleared ≡ j → deviceStep (g .first) (wire (g .second .lines)) ≡ noWord cleared → deviceStep (g .second) (wire (g .first .lines)) ≡ noWord cleared
       → Lead i j c₁ c₂ (suc n) (pairCycle g)
   unfolding pairCycle cycleOf
@@ -160,15 +139,11 @@ module _ {i j : Lines} {c₁ c₂ : Control} {n : ℕ} (g : PairModel) (l : Lead
       }
 
 -- a write that leaves the control registers leaves the engine
-kept-first : (g : PairModel) (o v : ℕ) → controlOf master (play (write master o v) g) ≡ controlOf master g → writeDevice (g .first) o v .engine ≡ g .first .engine
+kept : (d : DeviceModel) (o v : ℕ) → writeDevice d o v .registers .control ≡ d .registers .control → writeDevice d o v .engine ≡ d .engine
 unfolding writeDevice
-kept-first g o v h = engine-write (g .first) o v (ap enabledOf h)
+kept d o v h = engine-write d o v (ap enabledOf h)
 
-kept-second : (g : PairModel) (o v : ℕ) → controlOf slave (play (write slave o v) g) ≡ controlOf slave g → writeDevice (g .second) o v .engine ≡ g .second .engine
-unfolding writeDevice
-kept-second g o v h = engine-write (g .second) o v (ap enabledOf h)
-
--- Any steps that leave the control registers: the master off, and the slave still in every cycle.
+-- Any steps that leave the control registers: the master off, and the slave idle in every cycle.
 module _ {i j : Lines} {c₁ c₂ : Control} (p : linesOf (settingsOf c₁) cleared ≡ i) (q : linesOf (settingsOf c₂) cleared ≡ j) (off : enabledOf c₁ ≡ false)
     (from : ℕ) (quiet : (n : ℕ) (g : PairModel) → from ≤ n → Lead i j c₁ c₂ n g → deviceStep (g .second) (wire (g .first .lines)) ≡ noWord cleared) where
   pub lead-steps : (xs : List Step) (n m : ℕ) (g : PairModel) → n + cyclesIn xs ≡ m → from ≤ n → Stays xs g → Lead i j c₁ c₂ n g → Lead i j c₁ c₂ m (plays xs g)
@@ -178,5 +153,5 @@ module _ {i j : Lines} {c₁ c₂ : Control} (p : linesOf (settingsOf c₁) clea
       (lead-cycle g l p q (step-stopped (g .first) (wire (g .second .lines)) (ap enabledOf (l .first .control) ∙ off)) (quiet n g k l))
   lead-steps (read master o ∷ xs) n m g e k z l = lead-steps xs n m _ e k (z .2) (lead-first g l (resting-read (l .first) o))
   lead-steps (read slave o ∷ xs) n m g e k z l = lead-steps xs n m _ e k (z .2) (lead-read₂ g l o)
-  lead-steps (write master o v ∷ xs) n m g e k z l = lead-steps xs n m _ e k (z .2) (lead-write₁ g l c₁ o v (z .0 ∙ l .first .control) (kept-first g o v (z .0)))
-  lead-steps (write slave o v ∷ xs) n m g e k z l = lead-steps xs n m _ e k (z .2) (lead-write₂ g l c₂ o v (z .1 ∙ l .second .control) (kept-second g o v (z .1)))
+  lead-steps (write master o v ∷ xs) n m g e k z l = lead-steps xs n m _ e k (z .2) (lead-write₁ g l c₁ o v (z .0 ∙ l .first .control) (kept (g .first) o v (z .0)))
+  lead-steps (write slave o v ∷ xs) n m g e k z l = lead-steps xs n m _ e k (z .2) (lead-write₂ g l c₂ o v (z .1 ∙ l .second .control) (kept (g .second) o v (z .1)))

@@ -1,14 +1,13 @@
 -- Motorola: a word from each side, bit by bit, for both phases at once.
 use Prim.Native.Nat.{ℕ, zero, suc, _+_, _-_, _*_, _≤_, _<_}
 use mathlib.Core.Path.{_≡_, refl, ap, ap₂, _∙_}
-use mathlib.Core.Bool.{Bool, true, false, not, _&&_, and-true}
+use mathlib.Core.Bool.{Bool, true, false, not, _&&_}
 use mathlib.Core.List.{List}
 use native.Mathlib.Omega.{arith}
 use borrow.Author.Tests.{le-leb, lt-leb, lt-ltb}
-use Rattle.registers.specs.Time.{cycles, slots}
 use Rattle.registers.specs.declared.settings.Format.the-variants.{Motorola}
 use Rattle.registers.specs.declared.settings.Settings.{Settings}
-use Rattle.frames.specs.Bits.{bitOf, cut, shiftedIn}
+use Rattle.frames.specs.Bits.{bitOf, cut}
 use Rattle.frames.specs.Engine.{withShift, noWord, driven, captureStep, cleared, withFrame, withSelected}
 use Rattle.frames.specs.Slots.{eventOf, lastSlot, widthOf, motorolaLevels, levelsOf}
 use Rattle.frames.specs.Lines.{masterLines, slaveLines, frameLines, masterTxd}
@@ -17,7 +16,7 @@ use Rattle.serial.specs.Slave.{slaveStep, slaveEnd, motorolaSlave, motor
 use Rattle.serial.specs.Pair.{wire}
 use Rattle.serial.proofs.WithinSlot.{sending, shifted}
 use Rattle.serial.proofs.Trace.{Trace, none, trace-count, trace-end, trace-then}
-use Rattle.serial.proofs.Top.{top, top-next, top-last}
+use Rattle.serial.proofs.Top.{top}
 use Rattle.serial.proofs.Exchange.Core.{Receiver, Side, plain, push, slaveSide}
 use Rattle.serial.proofs.Exchange.Settle.{Two, slotStep}
 use Rattle.serial.proofs.Events.{motorola-drive, motorola-capture, lowAt, levels-drive, levels-capture}
@@ -25,7 +24,7 @@ use Rattle.frames.specs.declared.engine.Engine.{Engine}
 use Rattle.frames.specs.declared.engine.Shift.{Shift}
 use Rattle.frames.specs.declared.slots.Levels.{Levels}
 use Rattle.frames.specs.declared.slots.Event.the-variants.{Drive, Capture}
-use Rattle.serial.proofs.Exchange.Moves.{Queues, inFrame, shown, acted-by, next-in, capture-in, completed, capture-last, slave-by, Slot, slot-of, LiveSlot, slot-then}
+use Rattle.serial.proofs.Exchange.Moves.{Queues, inFrame, shown, acted-by, next-in, capture-in, completed, capture-last, received, next-bit, last-bit, slave-by, Slot, slot-of, LiveSlot, slot-then}
 use Rattle.serial.proofs.Exchange.Quiet.{quiet-low}
 
 -- a slave's engine while it is selected
@@ -93,24 +92,17 @@ unfolding wire slaveLines
 calm phase b h tx rx f x c d d′ e =
     slave-by (ss phase b h) _ _ (record { tx = tx; rx = rx; engine = chosen f x; lines = shown (x .level) }) (noWord (chosen f x)) (chosen f x) (shown (x .level)) (quiet-low phase b h c (d && true) (d′ && true) (chosen f x) _) e refl
 
--- bit c of the partner's word, shifted in
-pub next-bit : (b w c : ℕ) → c < b → b ≤ 16 → shiftedIn (top b w c) (bitOf b w c && true) ≡ top b w (c + 1)
-next-bit b w c l m = ap (shiftedIn (top b w c)) (and-true (bitOf b w c)) ∙ top-next b w c l m
-
-pub last-bit : (b w c : ℕ) → c + 1 ≡ b → b ≤ 16 → shiftedIn (top b w c) (bitOf b w c && true) ≡ cut b w
-last-bit b w c l m = ap (shiftedIn (top b w c)) (and-true (bitOf b w c)) ∙ top-last b w c l m
-
 module _ (phase : Bool) (b h w v : ℕ) (k : Queues) (m : b ≤ 16) where
-  abbrev now : ℕ → ℕ → Side
-  now c n = record { tx = k .mtx; rx = k .mrx; engine = sending n (shifted (c + 1) (bitOf b w c) w (top b v (c + 1))); lines = inFrame (not phase) (bitOf b w c) }
+  abbrev capturing : ℕ → ℕ → Side
+  capturing c n = record { tx = k .mtx; rx = k .mrx; engine = sending n (shifted (c + 1) (bitOf b w c) w (top b v (c + 1))); lines = inFrame (not phase) (bitOf b w c) }
 
   -- a bit is captured on both sides
-  capture-slot : (c n : ℕ) → n ≡ 2 * c + 2 → c + 1 < b → Slot (sm phase b h) (ss phase b h) (drivenAt phase b h w v k c n) (now c n) (capturedAt phase b h w v k c (n + 1))
+  capture-slot : (c n : ℕ) → n ≡ 2 * c + 2 → c + 1 < b → Slot (sm phase b h) (ss phase b h) (drivenAt phase b h w v k c n) (capturing c n) (capturedAt phase b h w v k c (n + 1))
   unfolding eventOf dataBit wire lastSlot slaveLines
   capture-slot c n e l =
       let x = shifted (c + 1) (bitOf b w c) w (top b v (c + 1)) in
       let x′ = shifted (c + 1) (bitOf b v c) v (top b w (c + 1)) in
-      slot-of (sm phase b h) (ss phase b h) (drivenAt phase b h w v k c n) (now c n) (capturedAt phase b h w v k c (n + 1) .m) (capturedAt phase b h w v k c (n + 1) .s) (capturedAt phase b h w v k c (n + 1) .s)
+      slot-of (sm phase b h) (ss phase b h) (drivenAt phase b h w v k c n) (capturing c n) (capturedAt phase b h w v k c (n + 1) .m) (capturedAt phase b h w v k c (n + 1) .s) (capturedAt phase b h w v k c (n + 1) .s)
       (acted-by (sm phase b h) n (shifted c (bitOf b w c) w (top b v c)) (k .mtx) (k .mrx) _ _ (bitOf b v c && true) Capture (noWord (sending n x)) (motorola-capture phase b n c e (omega arith))
       (capture-in b (bitOf b v c && true) (sending n (shifted c (bitOf b w c) w (top b v c))) l ∙ ap (λ (r : ℕ). noWord (sending n (shifted (c + 1) (bitOf b w c) w r))) (next-bit b v c (omega arith) m))
       (lines-at phase b h n x (not phase) (omega arith) (levels-capture phase b n c e (omega arith))))
@@ -121,16 +113,16 @@ module _ (phase : Bool) (b h w v : ℕ) (k : Queues) (m : b ≤ 16) where
       (in-word phase b h x′ l) refl)
       (calm phase b h (k .stx) (k .srx) true x′ (not phase) (bitOf b w c) (bitOf b w c) (in-word phase b h x′ l)) refl
 
-  abbrev pairRun : ℕ → ℕ → Side
-  pairRun c n = record { tx = k .mtx; rx = k .mrx; engine = sending n (shifted (c + 1) (bitOf b w (c + 1)) w (top b v (c + 1))); lines = inFrame phase (bitOf b w (c + 1)) }
+  abbrev driving : ℕ → ℕ → Side
+  driving c n = record { tx = k .mtx; rx = k .mrx; engine = sending n (shifted (c + 1) (bitOf b w (c + 1)) w (top b v (c + 1))); lines = inFrame phase (bitOf b w (c + 1)) }
 
   -- the next bit goes on both lines
-  drive-slot : (c n : ℕ) → n ≡ 2 * (c + 1) + 1 → c + 1 < b → Slot (sm phase b h) (ss phase b h) (capturedAt phase b h w v k c n) (pairRun c n) (drivenAt phase b h w v k (c + 1) (n + 1))
+  drive-slot : (c n : ℕ) → n ≡ 2 * (c + 1) + 1 → c + 1 < b → Slot (sm phase b h) (ss phase b h) (capturedAt phase b h w v k c n) (driving c n) (drivenAt phase b h w v k (c + 1) (n + 1))
   unfolding eventOf dataBit wire lastSlot widthOf slaveLines driven
   drive-slot c n e l =
       let x = shifted (c + 1) (bitOf b w (c + 1)) w (top b v (c + 1)) in
       let x′ = shifted (c + 1) (bitOf b v (c + 1)) v (top b w (c + 1)) in
-      slot-of (sm phase b h) (ss phase b h) (capturedAt phase b h w v k c n) (pairRun c n) (drivenAt phase b h w v k (c + 1) (n + 1) .m) (drivenAt phase b h w v k (c + 1) (n + 1) .s) (drivenAt phase b h w v k (c + 1) (n + 1) .s)
+      slot-of (sm phase b h) (ss phase b h) (capturedAt phase b h w v k c n) (driving c n) (drivenAt phase b h w v k (c + 1) (n + 1) .m) (drivenAt phase b h w v k (c + 1) (n + 1) .s) (drivenAt phase b h w v k (c + 1) (n + 1) .s)
       (acted-by (sm phase b h) n (shifted (c + 1) (bitOf b w c) w (top b v (c + 1))) (k .mtx) (k .mrx) _ _ (bitOf b v c && true) (Drive (c + 1)) (noWord (sending n x)) (motorola-drive phase b n (c + 1) e l) refl
       (lines-at phase b h n x phase (omega arith) (levels-drive phase b n (c + 1) e l)))
       (next-in (sm phase b h) n x (k .mtx) (k .mrx) _ (omega arith))
@@ -149,10 +141,6 @@ module _ (phase : Bool) (b h w v : ℕ) (k : Queues) (m : b ≤ 16) where
       (slot-then (drive-slot c (n + 1) (omega arith) (omega arith)) refl
       (bits-run j (c + 1) d (n + 1 + 1) o (omega arith) (omega arith) (omega arith) l)))
 
--- Words received on both sides.
-abbrev pub received : ℕ → ℕ → ℕ → Queues → Queues
-received b w v k = record { mtx = k .mtx; mrx = push (cut b v) (k .mrx); stx = k .stx; srx = push (cut b w) (k .srx) }
-
 -- after a word's last capture, of bit c; the clock's level is given
 abbrev pub filledAt : ℕ → ℕ → ℕ → Queues → ℕ → Bool → ℕ → Two
 filledAt b w v k c clk n =
@@ -170,12 +158,12 @@ module _ (phase : Bool) (b h w v : ℕ) (k : Queues) (m : b ≤ 16) where
   full c n = record { tx = k .mtx; rx = push (cut b v) (k .mrx); engine = sending n (shifted (c + 1) (bitOf b w c) w (cut b v)); lines = inFrame (not phase) (bitOf b w c) }
 
   -- the last bit is captured on both sides
-  last-slot : (c n : ℕ) → n ≡ 2 * c + 2 → c + 1 ≡ b → Slot (sm phase b h) (ss phase b h) (drivenAt phase b h w v k c n) (full c n) (filledAt b w v (received b w v k) c (not phase) (n + 1))
+  last-slot : (c n : ℕ) → n ≡ 2 * c + 2 → c + 1 ≡ b → Slot (sm phase b h) (ss phase b h) (drivenAt phase b h w v k c n) (full c n) (filledAt b w v (received b b w v k) c (not phase) (n + 1))
   unfolding eventOf dataBit wire lastSlot slaveLines slaveEnd
   last-slot c n e l =
       let x = shifted (c + 1) (bitOf b w c) w (cut b v) in
       let x′ = shifted (c + 1) (bitOf b v c) v (cut b w) in
-      let z = filledAt b w v (received b w v k) c (not phase) (n + 1) in
+      let z = filledAt b w v (received b b w v k) c (not phase) (n + 1) in
       slot-of (sm phase b h) (ss phase b h) (drivenAt phase b h w v k c n) (full c n) (z .m) (z .s) (z .s)
       (acted-by (sm phase b h) n (shifted c (bitOf b w c) w (top b v c)) (k .mtx) (k .mrx) _ _ (bitOf b v c && true) Capture
       (completed (sending n (shifted c (bitOf b w c) w (top b v c))) (cut b v)) (motorola-capture phase b n c e (omega arith))
@@ -189,7 +177,7 @@ module _ (phase : Bool) (b h w v : ℕ) (k : Queues) (m : b ≤ 16) where
       (calm phase b h (k .stx) (push (cut b w) (k .srx)) false x′ (not phase) (bitOf b w c) (bitOf b w c) (ended phase b h x′)) refl
 
   -- a word, from its first bit on the lines to its last capture
-  pub word-run : 0 < b → Trace (LiveSlot (sm phase b h) (ss phase b h)) (step phase b h) (2 * b - 1) (drivenAt phase b h w v k 0 2) (filledAt b w v (received b w v k) (b - 1) (not phase) (2 * b + 1))
+  pub word-run : 0 < b → Trace (LiveSlot (sm phase b h) (ss phase b h)) (step phase b h) (2 * b - 1) (drivenAt phase b h w v k 0 2) (filledAt b w v (received b b w v k) (b - 1) (not phase) (2 * b + 1))
   word-run l =
       trace-count (omega arith)
       (trace-then (bits-run phase b h w v k m (b - 1) 0 (b - 1) 2 (2 * b) (omega arith) (omega arith) (omega arith) (omega arith))

@@ -1,7 +1,7 @@
 -- The parts of a slot's step, one law each: the master's event, its lines, a capture, the slave's quiet cycle.
-use Prim.Native.Nat.{ℕ, suc, _+_, _<_}
+use Prim.Native.Nat.{ℕ, suc, _+_, _≤_, _<_}
 use mathlib.Core.Path.{_≡_, sym, ap, ap₂, _∙_, subst}
-use mathlib.Core.Bool.{Bool, true, false}
+use mathlib.Core.Bool.{Bool, true, false, _&&_, and-true}
 use mathlib.Core.List.{List}
 use native.Mathlib.Omega.{arith}
 use native.Mathlib.Nat.{mod-eq-of-lt, mod-lt}
@@ -10,7 +10,7 @@ use lib.ListN.{getD}
 use borrow.Author.Tests.{eq-eqb, ne-eqb, lt-ltb}
 use Rattle.registers.specs.Time.{slots}
 use Rattle.registers.specs.declared.settings.Settings.{Settings}
-use Rattle.frames.specs.Bits.{cut, shiftedIn}
+use Rattle.frames.specs.Bits.{bitOf, cut, shiftedIn}
 use Rattle.frames.specs.Engine.{withShift, noWord, capturedOf, completes, captureStep}
 use Rattle.frames.specs.Slots.{eventOf, lastSlot}
 use Rattle.frames.specs.Lines.{masterLines, slaveLines, masterTxd}
@@ -18,10 +18,11 @@ use Rattle.frames.specs.Master.{act, masterStep, acting, dataBit}
 use Rattle.serial.specs.Slave.{slaveStep, slaveEnd}
 use Rattle.serial.specs.Pair.{wire}
 use Rattle.serial.proofs.Cycles.{waits}
-use Rattle.serial.proofs.Exchange.Core.{Receiver, Side, withEngine, moved, acted, slaveSide}
+use Rattle.serial.proofs.Exchange.Core.{Receiver, Side, push, withEngine, moved, acted, slaveSide}
 use Rattle.serial.proofs.WithinSlot.{Live, next-within, sending, shifted}
 use Rattle.serial.proofs.Exchange.Settle.{Two, nextSide, slotStep, next}
 use Rattle.serial.proofs.Trace.{Trace, more}
+use Rattle.serial.proofs.Top.{top, top-next, top-last}
 use Rattle.serial.proofs.Exchange.Quiet.{side-after}
 use Rattle.frames.specs.declared.engine.Engine.{Engine}
 use Rattle.frames.specs.declared.engine.Shift.{Shift}
@@ -117,3 +118,14 @@ LiveSlot sm ss t = Live (next sm ss t .engine)
 
 pub slot-then : {sm ss : Settings} {t t′ z : Two} {y : Side} {n : ℕ} → Slot sm ss t y t′ → Live (y .engine) → Trace (LiveSlot sm ss) (slotStep sm ss) n t′ z → Trace (LiveSlot sm ss) (slotStep sm ss) (suc n) t z
 slot-then q live r = more (subst (λ (x : Side). Live (x .engine)) (sym (q .acts)) live) (q .steps) r
+
+-- bit c of the partner's word, shifted in
+pub next-bit : (b w c : ℕ) → c < b → b ≤ 16 → shiftedIn (top b w c) (bitOf b w c && true) ≡ top b w (c + 1)
+next-bit b w c l m = ap (shiftedIn (top b w c)) (and-true (bitOf b w c)) ∙ top-next b w c l m
+
+pub last-bit : (b w c : ℕ) → c + 1 ≡ b → b ≤ 16 → shiftedIn (top b w c) (bitOf b w c && true) ≡ cut b w
+last-bit b w c l m = ap (shiftedIn (top b w c)) (and-true (bitOf b w c)) ∙ top-last b w c l m
+
+-- Words received on both sides: the slave's v, cut to c bits, by the master, the master's w, cut to d, by the slave.
+abbrev pub received : ℕ → ℕ → ℕ → ℕ → Queues → Queues
+received c d w v k = record { mtx = k .mtx; mrx = push (cut c v) (k .mrx); stx = k .stx; srx = push (cut d w) (k .srx) }

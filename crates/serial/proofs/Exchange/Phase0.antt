@@ -20,8 +20,8 @@ use Rattle.serial.proofs.Top.{top-zero}
 use Rattle.serial.proofs.Exchange.Core.{Receiver, push}
 use Rattle.serial.proofs.Exchange.Settle.{Two}
 use Rattle.serial.proofs.Events.{motorola-drive, motorola-last, levels-drive, levels-last}
-use Rattle.serial.proofs.Exchange.Moves.{Queues, inFrame, shown, hidden, acted-by, next-in, slave-by, Slot, slot-of, LiveSlot, slot-then}
-use Rattle.serial.proofs.Exchange.Motorola.{sm, ss, step, chosen, drivenAt, filledAt, received, lines-at, in-word, calm, ended, word-run}
+use Rattle.serial.proofs.Exchange.Moves.{Queues, inFrame, shown, hidden, acted-by, next-in, received, slave-by, Slot, slot-of, LiveSlot, slot-then}
+use Rattle.serial.proofs.Exchange.Motorola.{sm, ss, step, chosen, drivenAt, filledAt, lines-at, in-word, calm, ended, word-run}
 use Rattle.serial.proofs.Exchange.Wiring.{front, holding, lastOf, Exchange}
 use Rattle.serial.proofs.Exchange.Ends.{idle, opened, begin-acts, release-slot, pause-slot, finalAt, ever}
 use Rattle.frames.specs.declared.slots.Event.the-variants.{Drive, Pause}
@@ -76,15 +76,15 @@ module _ (b h : ℕ) (l : 0 < b) (m : b ≤ 16) where
   -- a word, from between frames to the slot in which the frame is over
   frame-run : (w : ℕ) (ws : List ℕ) (q : Receiver) (vs : List ℕ) (r : Receiver)
       → Trace (LiveSlot (sm false b h) (ss false b h)) (step false b h) (2 * b + 2) (idle (holding (w ∷ ws) q vs r))
-      (filledAt b w (front vs) (received b w (front vs) (holding ws q (rest vs) r)) (b - 1) false (2 * b + 2))
+      (filledAt b w (front vs) (received b b w (front vs) (holding ws q (rest vs) r)) (b - 1) false (2 * b + 2))
   frame-run w ws q vs r =
       let k = holding ws q (rest vs) r in
       trace-count (omega arith)
       (slot-then (take-slot b h l w ws q vs r) refl
       (slot-then (first-slot b h l w (front vs) k) refl
       (trace-then (word-run false b h w (front vs) k m l)
-      (slot-then (hold-slot b h w (front vs) (received b w (front vs) k) (b - 1) (2 * b + 1) refl) refl
-      (trace-end none (ap (filledAt b w (front vs) (received b w (front vs) k) (b - 1) false) (omega arith)))))))
+      (slot-then (hold-slot b h w (front vs) (received b b w (front vs) k) (b - 1) (2 * b + 1) refl) refl
+      (trace-end none (ap (filledAt b w (front vs) (received b b w (front vs) k) (b - 1) false) (omega arith)))))))
 
   -- the idle slots with words left
   gap-run : (w v : ℕ) (u : ℕ) (ws : List ℕ) (q : Receiver) (vs : List ℕ) (r : Receiver) (c : ℕ)

@@ -22,8 +22,8 @@ use Rattle.serial.proofs.Top.{top-zero}
 use Rattle.serial.proofs.Exchange.Core.{Receiver, Side, push}
 use Rattle.serial.proofs.Exchange.Settle.{Two}
 use Rattle.serial.proofs.Events.{motorola-drive, motorola-last, levels-drive, levels-last}
-use Rattle.serial.proofs.Exchange.Moves.{Queues, inFrame, shown, hidden, acted-by, next-in, slave-by, Slot, slot-of, LiveSlot, slot-then}
-use Rattle.serial.proofs.Exchange.Motorola.{sm, ss, step, chosen, drivenAt, filledAt, received, lines-at, in-word, calm, ended, word-run}
+use Rattle.serial.proofs.Exchange.Moves.{Queues, inFrame, shown, hidden, acted-by, next-in, received, slave-by, Slot, slot-of, LiveSlot, slot-then}
+use Rattle.serial.proofs.Exchange.Motorola.{sm, ss, step, chosen, drivenAt, filledAt, lines-at, in-word, calm, ended, word-run}
 use Rattle.serial.proofs.Exchange.Wiring.{front, holding, lastOf, Exchange}
 use Rattle.serial.proofs.Exchange.Ends.{idle, opened, begin-acts, finalAt, ever}
 use Rattle.frames.specs.declared.engine.Shift.{Shift}
@@ -98,11 +98,11 @@ hold-slot b h w v q vs r c n e =
     let k = holding [] q vs r in
     let x = shifted (c + 1) (bitOf b w c) w (cut b v) in
     let x′ = shifted (c + 1) (bitOf b v c) v (cut b w) in
-    let still-there = calm true b h vs r false x′ false (bitOf b w c) (bitOf b w c) (ended true b h x′) in
+    let stays = calm true b h vs r false x′ false (bitOf b w c) (bitOf b w c) (ended true b h x′) in
     slot-of (sm true b h) (ss true b h) (filledAt b w v k c false n) (filledAt b w v k c false n .m) (filledAt b w v k c false (n + 1) .m) (filledAt b w v k c false n .s) (filledAt b w v k c false n .s)
     (acted-by (sm true b h) n x [] q _ _ (bitOf b v c && true) (Chain (slots 1)) (noWord (sending n x)) (motorola-last true b n e) refl (lines-at true b h n x false (omega arith) (levels-last true b n e)))
     (next-in (sm true b h) n x [] q _ (omega arith))
-    still-there still-there refl
+    stays stays refl
 
 module _ (b h : ℕ) (l : 0 < b) (m : b ≤ 16) where
   -- the words of a load, from the first one's first bit on
@@ -114,7 +114,7 @@ module _ (b h : ℕ) (l : 0 < b) (m : b ≤ 16) where
       trace-count (omega arith)
       (trace-then (word-run true b h w v k m l)
       (slot-then (hold-slot b h w v (push (cut b v) q) (rest vs) (push (cut b w) r) (b - 1) (2 * b + 1) refl) refl
-      (trace-end none (ap (filledAt b w v (received b w v k) (b - 1) false) (omega arith)))))
+      (trace-end none (ap (filledAt b w v (received b b w v k) (b - 1) false) (omega arith)))))
   words-run w (u ∷ ws) q vs r =
       let v = front vs in
       trace-count (omega arith)

@@ -1,4 +1,4 @@
--- A slave that sees no edge: it is still, and a cycle later nothing changes any more.
+-- A slave that sees no edge: it stays as it is, and a cycle later nothing changes any more.
 use Prim.Native.Nat.{ℕ}
 use mathlib.Core.Path.{_≡_, refl, sym, ap, _∙_}
 use mathlib.Core.Bool.{Bool, true, false, _&&_, and-false}
@@ -46,11 +46,11 @@ pub side-after : (s : Settings) (p q : Pins) (x : Side) (r : Step) → slaveStep
 unfolding slaveSide
 side-after s p q x r h = ap (after s x) h
 
--- a slave that is still whenever it sees p twice comes to rest
-still-idem : (s : Settings) (p : Pins) → ((e : Engine) (n : ℕ) → slaveStep s e p p n ≡ noWord e)
+-- a slave that stays as it is whenever it sees p twice comes to rest
+quiet-rests : (s : Settings) (p : Pins) → ((e : Engine) (n : ℕ) → slaveStep s e p p n ≡ noWord e)
     → (q r : Pins) (x : Side) → slaveSide s p p (slaveSide s p p (slaveSide s q r x)) ≡ slaveSide s p p (slaveSide s q r x)
 unfolding slaveSide
-still-idem s p h q r x =
+quiet-rests s p h q r x =
     let y = slaveSide s q r x in
     let fixed : slaveEnd s (y .engine) ≡ y .engine = ended-twice s (slaveStep s (x .engine) q r (getD (x .tx) 0 0) .engine) in
     let once : slaveSide s p p y ≡ withEngine (calm s y) (y .engine) = side-after s p p y (noWord (y .engine)) (h (y .engine) _) ∙ ap (withEngine (calm s y)) fixed in
@@ -78,7 +78,7 @@ lawful-motorola phase b h p q r x = go (p .fss)
         let p′ : Pins = record { clk = p .clk; fss = f; rxd = p .rxd } in
         slaveSide s p′ p′ (slaveSide s p′ p′ (slaveSide s q r x)) ≡ slaveSide s p′ p′ (slaveSide s q r x))
     go true = refl
-    go false = still-idem (plain Motorola phase b h true) (record { clk = p .clk; fss = false; rxd = p .rxd }) (quiet-low phase b h (p .clk) (p .rxd) (p .rxd)) q r x
+    go false = quiet-rests (plain Motorola phase b h true) (record { clk = p .clk; fss = false; rxd = p .rxd }) (quiet-low phase b h (p .clk) (p .rxd) (p .rxd)) q r x
 
 -- TI
 pub quiet-ti : (phase : Bool) (b h : ℕ) (c f d f′ d′ : Bool) (e : Engine) (n : ℕ) → slaveStep (plain Ti phase b h true) e (record { clk = c; fss = f; rxd = d }) (record { clk = c; fss = f′; rxd = d′ }) n ≡ noWord e
@@ -87,4 +87,4 @@ quiet-ti phase b h true f d f′ d′ e n = refl
 quiet-ti phase b h false f d f′ d′ e n = refl
 
 pub lawful-ti : (phase : Bool) (b h : ℕ) → Lawful (plain Ti phase b h true)
-lawful-ti phase b h p = still-idem (plain Ti phase b h true) p (quiet-ti phase b h (p .clk) (p .fss) (p .rxd) (p .fss) (p .rxd))
+lawful-ti phase b h p = quiet-rests (plain Ti phase b h true) p (quiet-ti phase b h (p .clk) (p .fss) (p .rxd) (p .fss) (p .rxd))

@@ -8,12 +8,12 @@ use lib.Dec.{eqb}
 use lib.ListN.{length}
 use borrow.Author.Tests.{ne-eqb, le-ltb, le-leb, lt-leb}
 use Rattle.registers.specs.Choose.{pick}
-use Rattle.registers.specs.Time.{cycles, slots}
+use Rattle.registers.specs.Time.{slots}
 use Rattle.registers.specs.Transfer.{rest}
 use Rattle.registers.specs.declared.settings.Format.the-variants.{Ti}
 use Rattle.registers.specs.declared.settings.Settings.{Settings}
 use Rattle.frames.specs.Bits.{bitOf, cut}
-use Rattle.frames.specs.Engine.{cleared, clearShift, withShift, noWord, begun, loaded, started, driven, captureStep}
+use Rattle.frames.specs.Engine.{cleared, withShift, noWord, begun, loaded, started, driven, captureStep}
 use Rattle.frames.specs.Slots.{eventOf, tiEvent, lastSlot, widthOf, tiLevels, levelsOf}
 use Rattle.frames.specs.Lines.{masterLines, slaveLines, frameLines, masterTxd}
 use Rattle.frames.specs.Master.{act, masterStep, masterEnd, acting, resting, dataBit, joinedShift}
@@ -27,8 +27,7 @@ use Rattle.serial.proofs.WithinSlot.{nextSlot, sending, shifted}
 use Rattle.serial.proofs.Exchange.Settle.{Two, slotStep, rested, mk}
 use Rattle.serial.proofs.Exchange.Quiet.{quiet-ti}
 use Rattle.serial.proofs.Events.{lowAt, ti-drive, ti-capture, ti-last, ti-levels-even, ti-levels-odd}
-use Rattle.serial.proofs.Exchange.Moves.{Queues, shown, hidden, acted-by, next-in, capture-in, completed, capture-last, slave-by, Slot, slot-of, LiveSlot, slot-then}
-use Rattle.serial.proofs.Exchange.Motorola.{received, next-bit, last-bit}
+use Rattle.serial.proofs.Exchange.Moves.{Queues, shown, hidden, acted-by, next-in, capture-in, completed, capture-last, received, next-bit, last-bit, slave-by, Slot, slot-of, LiveSlot, slot-then}
 use Rattle.serial.proofs.Exchange.Wiring.{front, holding, Holds, starts, lastOf, Exchange}
 use Rattle.frames.specs.declared.engine.Engine.{Engine}
 use Rattle.frames.specs.declared.engine.Shift.{Shift}
@@ -280,7 +279,7 @@ module _ (phase : Bool) (b h : ℕ) where
   -- the last capture, with no word behind it: the frame is over
   last-capture : (w v : ℕ) (q : Receiver) (vs : List ℕ) (r : Receiver) (c n : ℕ) → b ≤ 16 → n ≡ 2 * c + 3 → c + 1 ≡ b
       → Slot sm ss (drivenAt w v w (holding [] q vs r) c n false) (record { tx = []; rx = push (cut b v) q; engine = sending n (shifted (c + 1) (bitOf b w c) w (cut b v)); lines = bitLines false false (bitOf b w c) })
-      (doneAt (received b w v (holding [] q vs r)) (bitOf b w c))
+      (doneAt (received b b w v (holding [] q vs r)) (bitOf b w c))
   unfolding eventOf dataBit wire lastSlot nextSlot slaveLines slaveEnd
   last-capture w v q vs r c n m e l =
       let k = holding [] q vs r in
@@ -288,7 +287,7 @@ module _ (phase : Bool) (b h : ℕ) where
       let y0 = shifted c (bitOf b v c) v (top b w c) in
       let x = shifted (c + 1) (bitOf b w c) w (cut b v) in
       slot-of sm ss (drivenAt w v w k c n false) (record { tx = []; rx = push (cut b v) q; engine = sending n x; lines = bitLines false false (bitOf b w c) })
-      (doneAt (received b w v k) (bitOf b w c) .m) (record { tx = vs; rx = push (cut b w) r; engine = cleared; lines = shown (bitOf b v c) }) (doneAt (received b w v k) (bitOf b w c) .s)
+      (doneAt (received b b w v k) (bitOf b w c) .m) (record { tx = vs; rx = push (cut b w) r; engine = cleared; lines = shown (bitOf b v c) }) (doneAt (received b b w v k) (bitOf b w c) .s)
       (acted-by sm n x0 [] q _ _ (bitOf b v c && true) Capture (completed (sending n x0) (cut b v)) (ti-capture b n c e) (capture-last b (bitOf b v c && true) (sending n x0) v l (last-bit b v c l m)) (lines-at n x false (ti-levels-odd _ n c e)))
       (rw (le-ltb n (2 * b + 1) (omega arith)))
       (slave-by ss _ _ (drivenAt w v w k c n false .s) (completed (sending 0 y0) (cut b w)) cleared (shown (bitOf b v c))
@@ -299,13 +298,13 @@ module _ (phase : Bool) (b h : ℕ) where
   -- the last capture under the next word's mark
   chain-capture : (w v u : ℕ) (k : Queues) (c : ℕ) → b ≤ 16 → c + 1 ≡ b → 0 < c
       → Slot sm ss (drivenAt w v u k c 1 true) (record { tx = k .mtx; rx = push (cut b v) (k .mrx); engine = sending 1 (shifted (c + 1) (bitOf b w c) u (cut b v)); lines = bitLines false true (bitOf b w c) })
-      (markedAt u (received b w v k) (c + 1) (bitOf b w c) (cut b v) false)
+      (markedAt u (received b b w v k) (c + 1) (bitOf b w c) (cut b v) false)
   unfolding eventOf tiEvent dataBit wire lastSlot slaveLines slaveEnd tiLevels
   chain-capture w v u k c m l z =
       let x0 = shifted c (bitOf b w c) u (top b v c) in
       let y0 = shifted c (bitOf b v c) v (top b w c) in
       let x = shifted (c + 1) (bitOf b w c) u (cut b v) in
-      let t = markedAt u (received b w v k) (c + 1) (bitOf b w c) (cut b v) false in
+      let t = markedAt u (received b b w v k) (c + 1) (bitOf b w c) (cut b v) false in
       slot-of sm ss (drivenAt w v u k c 1 true) (record { tx = k .mtx; rx = push (cut b v) (k .mrx); engine = sending 1 x; lines = bitLines false true (bitOf b w c) })
       (t .m) (record { tx = k .stx; rx = push (cut b w) (k .srx); engine = marking; lines = shown (bitOf b v c) }) (t .s)
       (acted-by sm 1 x0 (k .mtx) (k .mrx) _ _ (bitOf b v c && true) JoinCapture (completed (sending 1 x0) (cut b v)) refl
@@ -332,7 +331,7 @@ module _ (phase : Bool) (b h : ℕ) where
         (trace-end none (ap (capturedAt w (front vs) k (b - 2)) (omega arith))))))
 
     abbrev finalAt : ℕ → Receiver → List ℕ → Receiver → Two
-    finalAt w q vs r = doneAt (received b w (front vs) (holding [] q (rest vs) r)) (bitOf b w (b - 2 + 1))
+    finalAt w q vs r = doneAt (received b b w (front vs) (holding [] q (rest vs) r)) (bitOf b w (b - 2 + 1))
 
     words-run : (w : ℕ) (ws : List ℕ) (q : Receiver) (vs : List ℕ) (r : Receiver) (c : ℕ) (d : Bool) (g : ℕ) (e : Bool)
         → Trace (LiveSlot sm ss) (slotStep sm ss) (suc (length ws) * (2 * b)) (markedAt w (holding ws q vs r) c d g e) (lastOf b b finalAt w ws q vs r)

@@ -59,16 +59,16 @@ unfolding slaveLines
 slave-hidden s = ap (λ (t : Bool). record { clk = false; fss = true; txd = t && false; released = not (t && not (s .sod)) }) (shows-cleared (s .format))
 
 -- an idle slave that sees the master's idle lines stays idle
-abbrev pub Still : Format → Bool → ℕ → ℕ → Type 0
-Still f phase b h = (n : ℕ) → slaveStep (plain f phase b h true) cleared (wire (idleOn f false)) (wire (idleOn f false)) n ≡ noWord cleared
+abbrev pub StaysIdle : Format → Bool → ℕ → ℕ → Type 0
+StaysIdle f phase b h = (n : ℕ) → slaveStep (plain f phase b h true) cleared (wire (idleOn f false)) (wire (idleOn f false)) n ≡ noWord cleared
 
-module _ (f : Format) (phase : Bool) (b h : ℕ) (still : Still f phase b h) where
+module _ (f : Format) (phase : Bool) (b h : ℕ) (stays : StaysIdle f phase b h) where
   pub idle-settled : (k : Queues) → Settled (plain f phase b h false) (plain f phase b h true) (starts (idleOn f false) k)
   unfolding slaveEnd
   idle-settled k =
       let ss = plain f phase b h true in
       let o = wire (idleOn f false) in
-      slave-by ss o o (starts (idleOn f false) k .s) (noWord cleared) cleared hidden (still (front (k .stx))) refl (slave-hidden ss)
+      slave-by ss o o (starts (idleOn f false) k .s) (noWord cleared) cleared hidden (stays (front (k .stx))) refl (slave-hidden ss)
 
   -- with nothing to send nothing happens
   pub idle-stays : (q : Receiver) (vs : List ℕ) (r : Receiver)
@@ -99,7 +99,7 @@ pub record Exchange (sm ss : Settings) (i : Lines) (slots : ℕ → ℕ) : Type 
 -- A format with its phase, b bits and h cycles a slot.
 pub record Wiring (f : Format) (phase : Bool) (b h : ℕ) : Type 0 where
   pub lawful : Lawful (plain f phase b h true)
-  pub still : Still f phase b h
+  pub stays-idle : StaysIdle f phase b h
   pub turned : Turned f phase b h
   pub slots : ℕ → ℕ
   pub exchange : Exchange (plain f phase b h false) (plain f phase b h true) (idleOn f false) slots
@@ -107,8 +107,8 @@ pub record Wiring (f : Format) (phase : Bool) (b h : ℕ) : Type 0 where
   pub in-time : (n : ℕ) → slots n * h ≤ busyFor f phase b (divisor h) (suc n) .0
 
 -- An idle slave stays idle under the idle lines of any SPO.
-pub still-given : {f : Format} {phase : Bool} {b h : ℕ} → Wiring f phase b h → (p : Bool) (k n : ℕ) → slaveStep (given f phase p b k true false) cleared (wire (idleOn f p)) (wire (idleOn f p)) n ≡ noWord cleared
+pub stays-idle-given : {f : Format} {phase : Bool} {b h : ℕ} → Wiring f phase b h → (p : Bool) (k n : ℕ) → slaveStep (given f phase p b k true false) cleared (wire (idleOn f p)) (wire (idleOn f p)) n ≡ noWord cleared
 unfolding wire
-still-given {f} {phase} {b} W p k n =
+stays-idle-given {f} {phase} {b} W p k n =
     let o = wire (idleOn f false) in
-    ap (λ (x : Lines). slaveStep (given f phase p b k true false) cleared (wire x) (wire x) n) (idle-turned f p) ∙ W .turned p k cleared o o n ∙ W .still n
+    ap (λ (x : Lines). slaveStep (given f phase p b k true false) cleared (wire x) (wire x) n) (idle-turned f p) ∙ W .turned p k cleared o o n ∙ W .stays-idle n

@@ -1,5 +1,3 @@
-use Rattle.device_record.specs.Run.{stopsOn}
-use Rattle.serial.specs.Cycle.{deviceOf}
 use borrow.Author.Needs.{needs}
 use Rattle.device_record.proofs.run.stops_on.Statement.{statement}
 use Rattle.device_record.proofs.run.stops_on.Tie as tie

@@ -4,19 +4,19 @@ use borrow.Author.Needs.{needs}
 use Rattle.frames.proofs.bits.bit_of.Statement.{statement}
 use Rattle.frames.proofs.bits.bit_of.Tie as tie
 
-place-of-requires : tie.Need-place-of-requires
-place-of-requires c κs = search needs
+shift-of-requires : tie.Need-shift-of-requires
+shift-of-requires c κs = search needs
 
 shr-result : tie.Need-shr-result
 shr-result c = search needs
 
 returns : tie.Need-returns
 unfolding bitOf
-returns c = rw (← c .before .place-of .ensures)
+returns c = rw (← c .before .shift-of .ensures)
 
 returns-2 : tie.Need-returns-2
 unfolding bitOf
-returns-2 c = rw (← c .before .place-of .ensures) (bit-past (c .before .before .args .word) (c .before .place-of .result) (search needs) (c .if1 .left))
+returns-2 c = rw (← c .before .shift-of .ensures) (bit-past (c .before .before .args .word) (c .before .shift-of .result) (search needs) (c .if1 .left))
 
 pub bit-of-spec : {M : Type 1} → statement M
-bit-of-spec = tie.close (tie.spec place-of-requires shr-result returns returns-2)
+bit-of-spec = tie.close (tie.spec shift-of-requires shr-result returns returns-2)

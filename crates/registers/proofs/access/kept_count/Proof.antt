@@ -1,4 +1,3 @@
-use borrow.Author.Needs.{needs}
 use Rattle.registers.proofs.access.kept_count.Statement.{statement}
 use Rattle.registers.proofs.access.kept_count.Tie as tie
 

@@ -1,4 +1,3 @@
-use Rattle.registers.specs.Access.{dataTaken}
 use borrow.Author.Needs.{needs}
 use Rattle.registers.proofs.access.read_done.Statement.{statement}
 use Rattle.registers.proofs.access.read_done.Tie as tie

@@ -1,12 +1,12 @@
 use mathlib.Core.Path.{sym, ap}
 use Rattle.registers.specs.Offsets.{registerOf}
-use Rattle.registers.proofs.Decoder.{place-odd, place-reserved, place-identity, place-outside, identity-fits, no-gap}
+use Rattle.registers.proofs.Decoder.{register-odd, register-reserved, register-identity, register-outside, identity-fits, no-gap}
 use native.Mathlib.Omega.{arith}
 use Rattle.registers.proofs.offsets.register_of.Statement.{statement}
 use Rattle.registers.proofs.offsets.register_of.Tie as tie
 
 returns : tie.Need-returns
-returns c = place-odd _ (c .if1 .taken)
+returns c = register-odd _ (c .if1 .taken)
 
 cast-t8 : tie.Need-cast-t8
 cast-t8 c = identity-fits _ (c .if5 .taken)
@@ -52,10 +52,10 @@ unfolding registerOf
 returns-11 c = sym (ap registerOf (c .match .keys10))
 
 returns-12 : tie.Need-returns-12
-returns-12 c = place-reserved _ (c .before .before .before .if1 .left) (c .before .if2 .left) (c .if3 .taken)
+returns-12 c = register-reserved _ (c .before .before .before .if1 .left) (c .before .if2 .left) (c .if3 .taken)
 
 returns-13 : tie.Need-returns-13
-returns-13 c = place-identity _ (c .before .before .before .before .before .if1 .left) (c .before .if4 .left) (c .if5 .taken)
+returns-13 c = register-identity _ (c .before .before .before .before .before .if1 .left) (c .before .if4 .left) (c .if5 .taken)
 
 returns-14 : tie.Need-returns-14
 returns-14 c = let h = c .before .match .rest in
@@ -65,7 +65,7 @@ returns-15 : tie.Need-returns-15
 returns-15 c = absurd (let m = c .before .before .before .before .if1 .left in let a = c .before .if3 .left in let b = c .if4 .taken in omega arith)
 
 returns-16 : tie.Need-returns-16
-returns-16 c = place-outside _ (c .before .before .before .before .before .if1 .left) (c .if5 .left)
+returns-16 c = register-outside _ (c .before .before .before .before .before .if1 .left) (c .if5 .left)
 
 pub register-of-spec : {M : Type 1} → statement M
 register-of-spec =

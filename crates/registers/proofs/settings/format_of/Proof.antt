@@ -1,4 +1,4 @@
-use borrow.Author.Tests.{eq-eqb, ne-eqb}
+use borrow.Author.Tests.{ne-eqb}
 use Rattle.registers.specs.Settings.{formatOf}
 use Rattle.registers.proofs.settings.format_of.Statement.{statement}
 use Rattle.registers.proofs.settings.format_of.Tie as tie

@@ -1,4 +1,4 @@
-use Rattle.serial.proofs.Wiring.{device-lines}
+use Rattle.serial.proofs.PairRuns.{device-lines}
 use Rattle.serial.specs.Pair.{pairCycle, pairOf}
 use borrow.Author.Needs.{needs}
 use Rattle.serial.proofs.pair.pair_cycle.Statement.{statement}

@@ -1,10 +1,10 @@
 -- The cycles that are left lead from the pair of each turn to the pair at the end.
-use Prim.Native.Nat.{_+_, _-_, _≤_}
+use Prim.Native.Nat.{_-_, _≤_}
 use mathlib.Core.Path.{_≡_, sym, _∙_}
 use native.Mathlib.Nat.{sub-zero}
 use borrow.Author.Needs.{needs}
 use Rattle.serial.specs.Pair.{pairOf, pairRun}
-use Rattle.serial.proofs.Wiring.{pair-run-next, pair-run-none}
+use Rattle.serial.proofs.PairRuns.{pair-run-next, pair-run-none}
 use Rattle.serial.proofs.pair.pair_run.Statement.{statement}
 use Rattle.serial.proofs.pair.pair_run.Tie as tie
 
