@@ -16,7 +16,7 @@ use Rattle.serial.specs.Access.{readAnswerOf, readDevice, writeRefusalOf, write
 use Rattle.serial.proofs.Accesses.{refused-read}
 use Rattle.device_record.specs.Record.{encoded, encode, decode, soundBytes}
 use Rattle.device_record.specs.Run.{afterBytes, outputs, inputsFit, stopsOn, countUntil, written, RunUntil, runRefusal}
-use Rattle.device_record.specs.Calls.{leftBy, resetRefusal, recordRefusal, readCall, writeCall, runCount, runLeft, runOutput, ResetCall, ReadCall, WriteCall, RunCall, pairRefusal, pairAfter, PairCall}
+use Rattle.device_record.specs.Calls.{leftBy, resetRefusal, recordRefusal, readCall, writeCall, runCount, runLeft, runOutput, ResetCall, ReadCall, WriteCall, RunCall, RunsAll, pairRefusal, pairAfter, PairCall}
 use Rattle.serial.specs.Pair.{PairModel, pairRun, pairOf}
 use Rattle.serial.specs.declared.pair.Wired.{Wired}
 use Rattle.serial.specs.declared.Device.{Device}
@@ -136,19 +136,28 @@ module _ (b i o : List ℕ) where
   unfolding runCount
   count-all n e t = rw (e, t) (count-never (decode b) i)
 
-  pub run-all : runLeft Never b i o ≡ leftBy (runRefusal b i o) (afterBytes (decode b) i) b
+  run-all : runLeft Never b i o ≡ leftBy (runRefusal b i o) (afterBytes (decode b) i) b
   run-all = go (eqb (runRefusal b i o) 0) refl
     where
       go : (t : Bool) → eqb (runRefusal b i o) 0 ≡ t → pick t (encoded (afterBytes (decode b) (take (runCount Never b i o) i))) b ≡ pick t (encoded (afterBytes (decode b) i)) b
       go true k = rw (count-all (runRefusal b i o) refl k, take-length i)
       go false k = refl
 
-  pub output-all : runOutput Never b i o ≡ pick (eqb (runRefusal b i o) 0) (outputs (decode b) i) o
+  output-all : runOutput Never b i o ≡ pick (eqb (runRefusal b i o) 0) (outputs (decode b) i) o
   output-all = go (eqb (runRefusal b i o) 0) refl
     where
       go : (t : Bool) → eqb (runRefusal b i o) 0 ≡ t → pick t (written (decode b) (runCount Never b i o) i o) o ≡ pick t (outputs (decode b) i) o
       go true k = rw (count-all (runRefusal b i o) refl k) (written-all (decode b) i o (run-passes b i o (eqb-true (runRefusal b i o) 0 k) .1))
       go false k = refl
+
+pub runs-all : RunsAll
+unfolding runCount
+runs-all =
+    record {
+      count = λ b i o. ap (λ (n : ℕ). pick (eqb (runRefusal b i o) 0) n 0) (count-never (decode b) i);
+      left = run-all;
+      output = output-all;
+    }
 
 -- Pairs ----------------------------------------------------------------------------------------------------------------
 

@@ -13,9 +13,10 @@ use Rattle.serial.specs.Cycle.{DeviceModel, resetDevice}
 use Rattle.serial.specs.Access.{readAnswerOf, readDevice, writeRefusalOf, writeDevice}
 use Rattle.serial.specs.Pair.{PairModel, pairRun}
 use Rattle.device_record.specs.Record.{recordLength, encoded, decode, soundBytes}
-use Rattle.device_record.specs.Run.{afterBytes, stopsOn, countUntil, written, wrongLength, unsound, runRefusal}
+use Rattle.device_record.specs.Run.{afterBytes, outputs, stopsOn, countUntil, written, wrongLength, unsound, runRefusal}
 use Rattle.device_record.specs.declared.calls.RunAnswer.{RunAnswer}
 use Rattle.device_record.specs.declared.run.Stop.{Stop}
+use Rattle.device_record.specs.declared.run.Stop.the-variants.{Never}
 
 -- A record after a call: the encoding of a device where the call is done, else the bytes as they were.
 abbrev pub leftBy : ℕ → DeviceModel → List ℕ → List ℕ
@@ -91,6 +92,12 @@ pub record RunCall (stop : Stop) (bytes ins outs : List ℕ) (r : RunAnswer) (by
   pub count : r .count ≡ runCount stop bytes ins outs
   pub left : bytes′ ≡ runLeft stop bytes ins outs
   pub output : outs′ ≡ runOutput stop bytes ins outs
+
+-- A run that nothing stops is a cycle for each input byte, the lines of each in its place.
+pub record RunsAll : Type 0 where
+  pub count : (bytes ins outs : List ℕ) → runCount Never bytes ins outs ≡ pick (eqb (runRefusal bytes ins outs) done) (length ins) 0
+  pub left : (bytes ins outs : List ℕ) → runLeft Never bytes ins outs ≡ leftBy (runRefusal bytes ins outs) (afterBytes (decode bytes) ins) bytes
+  pub output : (bytes ins outs : List ℕ) → runOutput Never bytes ins outs ≡ pick (eqb (runRefusal bytes ins outs) done) (outputs (decode bytes) ins) outs
 
 -- Pairs ----------------------------------------------------------------------------------------------------------------
 
