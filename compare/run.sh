@@ -28,7 +28,7 @@ cargo build --quiet --offline --locked --release --manifest-path "$here/Cargo.to
 compare=$CARGO_TARGET_DIR/release/compare
 
 # The second program on the vectors, then the library beside it.
-vectors=../shared/vectors
+vectors=../shared/vectors-1
 if [ -d "$vectors" ]; then
     "$here/vectors.sh" "$vectors"
     for script in "$vectors"/*.in; do
@@ -39,7 +39,7 @@ if [ -d "$vectors" ]; then
         }
     done
 else
-    echo "run: no folder ../shared/vectors, its vectors are skipped"
+    echo "run: no folder $vectors, its vectors are skipped"
 fi
 
 # The outer limit is for a call that does not return.

@@ -20,7 +20,7 @@ uint32_t __real_pl022_pair_run(uint8_t *, size_t, uint8_t *, size_t, uint64_t);
 enum {
     RESET_LEAVES_A_BYTE = 1, RESET_TAKES_127,
     READ_WORD_WITH_REFUSAL, READ_CHANGES_RECORD, READ_LOOKS_BEHIND, READ_LOOKS_BEFORE,
-    READ_CUTS_LENGTH, READ_OTHER_FLAG, READ_OTHER_INTERRUPT,
+    READ_CUTS_LENGTH, READ_OTHER_FLAG, READ_OTHER_INTERRUPT, READ_BOUNDS_CONTROL,
     WRITE_CHANGES_ON_REFUSAL, WRITE_LOSES_A_BIT, WRITE_UNSOUND_FOR_SOUND, WRITE_SWAPS_ORDER,
     WRITE_LEAVES_UNSOUND,
     RUN_WRITES_BEHIND, RUN_WRITES_BEFORE, RUN_LOOKS_BEHIND, RUN_LOOKS_AT_NOTHING,
@@ -72,6 +72,17 @@ uint32_t __wrap_pl022_reset(uint8_t *record, size_t record_len)
     return refusal;
 }
 
+/* A Microwire slave with more bits captured than a word has: it is sound up to eight. */
+static bool long_control(const uint8_t *record, size_t record_len)
+{
+    const uint32_t enabled_slave = PL022_CR1_SSE | PL022_CR1_MS;
+
+    return record_len == PL022_RECORD_LENGTH
+        && (record[PL022_RECORD_CR1] & enabled_slave) == enabled_slave
+        && (record[PL022_RECORD_CR0] & PL022_CR0_FRF_MASK) == PL022_CR0_FRF_MICROWIRE
+        && record[PL022_RECORD_CAPTURED] > (record[PL022_RECORD_CR0] & PL022_CR0_DSS_MASK) + 1;
+}
+
 struct pl022_word __wrap_pl022_read(uint8_t *record, size_t record_len, uint32_t offset)
 {
     if (due(READ_LOOKS_BEHIND, record_len > 0)) {
@@ -82,6 +93,9 @@ struct pl022_word __wrap_pl022_read(uint8_t *record, size_t record_len, uint32_t
     }
     if (chosen(READ_CUTS_LENGTH)) {
         record_len &= UINT32_MAX;
+    }
+    if (due(READ_BOUNDS_CONTROL, long_control(record, record_len))) {
+        return (struct pl022_word){PL022_UNSOUND, 0};
     }
     struct pl022_word answer = __real_pl022_read(record, record_len, offset);
     if (due(READ_WORD_WITH_REFUSAL, answer.refusal != PL022_DONE)) {

@@ -36,6 +36,7 @@ read looks at the byte before the record
 read cuts the length to 32 bits
 read of SR gives another flag
 read of MIS gives another interrupt
+read bounds control bits by the word size
 write changes the record though refused
 write loses a bit of IMSC
 write answers 9 for a sound record

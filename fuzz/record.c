@@ -38,7 +38,7 @@ static const struct field {
     {PL022_RECORD_SPARE_1, 2, LIMIT_FIXED, 0},
 };
 
-enum { FIELDS = sizeof fields / sizeof fields[0] };
+enum { FIELDS = sizeof fields / sizeof fields[0], CONTROL_BITS = 8 };
 
 static uint32_t get(const uint8_t *record, size_t at, size_t size)
 {
@@ -103,6 +103,15 @@ uint32_t draw_cr0(uint32_t scr)
          | draw_between(LEAST_DSS, 15) << PL022_CR0_DSS_SHIFT;
 }
 
+/* The bits of a received word: b, but a control byte in a Microwire slave. */
+static uint32_t captured_bits(const uint8_t *record)
+{
+    bool slave = (record[PL022_RECORD_CR1] & PL022_CR1_MS) != 0;
+    bool microwire = (record_cr0(record) & PL022_CR0_FRF_MASK) == PL022_CR0_FRF_MICROWIRE;
+
+    return slave && microwire ? CONTROL_BITS : record_dss(record) + 1;
+}
+
 /* Cycles in a slot. */
 static uint32_t record_h(const uint8_t *record)
 {
@@ -130,7 +139,7 @@ static uint32_t most(const uint8_t *record, const struct field *field)
     case LIMIT_CYCLES:
         return record_h(record) - 1;
     case LIMIT_CAPTURED:
-        return bits;
+        return captured_bits(record);
     default:
         return field->most;
     }

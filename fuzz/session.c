@@ -157,11 +157,14 @@ static size_t draw_cycles(void)
     }
 }
 
-/* A clock with a frame line that comes back every few periods, as a slave may be given. */
+/*
+ * A clock with a frame line that comes back every few periods, as a slave may be given. A Microwire
+ * slave needs up to 25 periods with the line LOW for a frame, and twice as many for a second one.
+ */
 static void draw_wave(uint8_t *input, size_t length)
 {
-    uint32_t half = draw_between(1, 8);
-    uint32_t frame = draw_between(4, 40) * half;
+    uint32_t half = draw_between(1, draw_one_in(2) ? 2 : 8);
+    uint32_t frame = draw_between(4, draw_one_in(2) ? 40 : 120) * half;
     uint32_t mark = draw_one_in(2) ? 2 * half : draw_between(1, frame);
     uint32_t phase = draw_below(frame);
 

@@ -12,13 +12,8 @@ static uint64_t digest;
 static uint64_t answers[CALLS][REFUSALS];
 static uint64_t enabled_runs[FORMATS][ROLES_OF_DEVICE][SIZES];
 static uint64_t arrivals[FORMATS][ROLES_OF_DEVICE];
+static uint64_t takes[FORMATS][ROLES_OF_DEVICE];
 static uint64_t raw_seen[RAW_BITS];
-
-/* A Microwire slave stays idle, so no word arrives in it. */
-static bool may_receive(unsigned format, unsigned slave)
-{
-    return format != PL022_CR0_FRF_MICROWIRE >> PL022_CR0_FRF_SHIFT || slave == 0;
-}
 
 static void tally_run(const struct request *request, const struct outcome *outcome, enum role role)
 {
@@ -32,6 +27,7 @@ static void tally_run(const struct request *request, const struct outcome *outco
     }
     enabled_runs[format][slave][record_dss(before)]++;
     arrivals[format][slave] += after[PL022_RECORD_RX_COUNT] > before[PL022_RECORD_RX_COUNT];
+    takes[format][slave] += after[PL022_RECORD_TX_COUNT] < before[PL022_RECORD_TX_COUNT];
 }
 
 static void digest_number(uint64_t number)
@@ -83,8 +79,9 @@ void tally_print(void)
         }
     }
     for (unsigned format = 0; format < FORMATS; format++) {
-        printf("; FRF %u words received %" PRIu64 " as master %" PRIu64 " as slave",
-               format, arrivals[format][0], arrivals[format][1]);
+        printf("; FRF %u words received %" PRIu64 " as master %" PRIu64 " as slave"
+               ", taken to be sent %" PRIu64 " and %" PRIu64,
+               format, arrivals[format][0], arrivals[format][1], takes[format][0], takes[format][1]);
     }
 }
 
@@ -99,8 +96,9 @@ static bool formats_complete(void)
                     complete = false;
                 }
             }
-            if (arrivals[format][slave] == 0 && may_receive(format, slave)) {
-                fprintf(stderr, "fuzz: never received in FRF %u MS %u\n", format, slave);
+            if (arrivals[format][slave] == 0 || takes[format][slave] == 0) {
+                fprintf(stderr, "fuzz: never received or took a word in FRF %u MS %u\n",
+                        format, slave);
                 complete = false;
             }
         }

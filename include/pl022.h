@@ -119,7 +119,7 @@ enum pl022_register {
 #define PL022_CR0_FRF_MASK 0x0030u      /* frame format, one of the next three */
 #define PL022_CR0_FRF_MOTOROLA 0x0000u
 #define PL022_CR0_FRF_TI 0x0010u
-#define PL022_CR0_FRF_MICROWIRE 0x0020u
+#define PL022_CR0_FRF_MICROWIRE 0x0020u /* 8 bits to the slave, then a word from it */
 #define PL022_CR0_SPO 0x0040u           /* Motorola: CLK rests HIGH */
 #define PL022_CR0_SPH 0x0080u           /* Motorola: captures at the second edge of CLK */
 #define PL022_CR0_SCR_SHIFT 8
@@ -181,8 +181,8 @@ enum pl022_record_offset {
     PL022_RECORD_SELECTED = 13,         /* slave, 1: selected */
     PL022_RECORD_TI_MARK = 14,          /* slave, 1: a TI start was seen */
     PL022_RECORD_CAPTURED = 15,         /* bits of the word being received so far */
-    PL022_RECORD_SLOT = 16,             /* master: slot number */
-    PL022_RECORD_HELD = 17,             /* data level held on TXD, 0 or 1 */
+    PL022_RECORD_SLOT = 16,             /* master, Microwire slave: slot number */
+    PL022_RECORD_HELD = 17,             /* data level for TXD, 0 or 1 */
     PL022_RECORD_SLOT_CYCLES = 18,      /* 2 bytes: cycles elapsed in the slot */
     PL022_RECORD_TX_WORD = 20,          /* 2 bytes: word being sent */
     PL022_RECORD_RX_WORD = 22,          /* 2 bytes: word being received */

@@ -1,9 +1,14 @@
 //! The second program with one fault, to see that the harness finds it.
 
+use crate::device::{Device, Format, Queue};
 use crate::model::{Model, Second};
-use crate::record::at;
+use crate::record::{at, decode, encode};
+use std::ops::RangeInclusive;
 
-pub const FAULTS: u32 = 15;
+pub const FAULTS: u32 = 19;
+
+/// Those of a Microwire slave.
+pub const MICROWIRE_FAULTS: RangeInclusive<u32> = 15..=18;
 
 /// Faults that show in bytes 12 to 23 alone, some only after damage.
 fn spoil_engine(number: u32, record: &mut [u8]) {
@@ -18,6 +23,59 @@ fn spoil_engine(number: u32, record: &mut [u8]) {
         13 if slave => record[at::SLOT] = 0,
         14 if enabled && !frame => record[at::CAPTURED] = 0,
         _ => {}
+    }
+}
+
+/// The state of a Microwire slave that is enabled; None for any other record.
+fn microwire_slave(record: &[u8]) -> Option<Device> {
+    let device = decode(record.try_into().ok()?)?;
+    let microwire = device.slave() && device.format() == Format::Microwire;
+    (microwire && device.enabled()).then_some(device)
+}
+
+/// Faults of a Microwire slave in one cycle, which led from the one state to the other.
+fn spoil_microwire(number: u32, before: &Device, after: &mut Device) {
+    let last = 17 + 2 * after.bits();
+    match number {
+        15 if before.captured == 7 && after.captured == 8 => {
+            // The word is taken with the eighth control bit, one clock early.
+            after.slot = 17;
+            after.captured = 0;
+            after.receiving = 0;
+            after.sending = after.tx.pop().unwrap_or(0);
+            after.held = after.sending >> (after.bits() - 1) & 1 != 0;
+        }
+        // The control byte is cut to b bits.
+        16 if after.rx.len() > before.rx.len() => after.rx = cut_last(&after.rx, after.bits()),
+        // The last data bit is shown for one cycle past its end.
+        17 if before.slot == last && after.slot == 0 && after.selected => {
+            after.lines = before.lines
+        }
+        // The frame lasts until the last data bit ends.
+        18 if after.slot == last && before.frame => after.frame = true,
+        _ => {}
+    }
+}
+
+/// The same words, of the newest only the low b bits.
+fn cut_last(queue: &Queue, b: u8) -> Queue {
+    let mut words = queue.words().to_vec();
+    if let Some(word) = words.last_mut() {
+        *word &= 0xFFFF >> (16 - b);
+    }
+    Queue::from_words(&words).unwrap_or_default()
+}
+
+/// One cycle after the other, each with its fault.
+fn run_microwire(number: u32, record: &mut [u8], input: &[u8], output: &mut [u8]) {
+    for (pins, lines) in input.iter().zip(output) {
+        let before = microwire_slave(record);
+        Second.run(record, &[*pins], std::slice::from_mut(lines));
+        if let (Some(before), Some(mut after)) = (before, microwire_slave(record)) {
+            spoil_microwire(number, &before, &mut after);
+            *lines = after.lines;
+            record.copy_from_slice(&encode(&after));
+        }
     }
 }
 
@@ -48,8 +106,13 @@ impl Model for Faulty {
     }
 
     fn run(&self, record: &mut [u8], input: &[u8], output: &mut [u8]) -> u32 {
+        let mut start = record.to_vec();
         let refusal = Second.run(record, input, output);
         match self.0 {
+            number if refusal == 0 && MICROWIRE_FAULTS.contains(&number) => {
+                run_microwire(number, &mut start, input, output);
+                record.copy_from_slice(&start);
+            }
             3 if refusal == 12 => output[0] = 0,
             4 if refusal == 11 && record.len() == 128 => record[30] ^= 1,
             5 if refusal == 0 && input.len() > 1000 => output[1000] ^= 4,

@@ -137,7 +137,7 @@ fn sound_enabled(device: &Device) -> bool {
         && device.rt_count < device.timeout()
         && device.slot <= device.last_slot()
         && u32::from(device.gone) < device.slot_cycles()
-        && device.captured <= device.bits()
+        && device.captured <= device.incoming_bits()
 }
 
 fn sound_disabled(device: &Device) -> bool {

@@ -176,6 +176,72 @@ fn ti_slave() {
     assert_eq!(engine(&record), CLEAR, "last capture");
 }
 
+/// A Microwire slave's engine row by row: selection, each kind of edge, the end.
+#[test]
+fn microwire_slave() {
+    let mut record = enabled(0x20, 6, 1, &[0xFFF9, 0x5]);
+    assert_eq!(seen(&mut record, &[2, 2]), CLEAR);
+    let selected = Engine { selected: 1, ..CLEAR };
+    assert_eq!(seen(&mut record, &[0]), selected, "FSS fall");
+    let first = Engine { frame: 1, captured: 1, receiving: 1, ..selected };
+    assert_eq!(seen(&mut record, &[5]), first, "control bit");
+    assert_eq!(seen(&mut record, &[0]), first, "fall");
+    // 1 is there, 101010 comes now and then 1: 11010101 or D5.
+    let seven = seen(&mut record, &[5, 0, 1, 0, 5, 0, 1, 0, 5, 0, 1]);
+    assert_eq!(seven, Engine { captured: 7, receiving: 0b1101010, ..first });
+    let eight = Engine { captured: 8, receiving: 0b11010101, ..first };
+    assert_eq!(seen(&mut record, &[0, 5]), eight, "the eighth, the frame goes on");
+    assert_eq!((record[at::RX_COUNT], record[at::RX]), (1, 0xD5));
+    assert_eq!(seen(&mut record, &[0]), eight, "fall");
+    // 9 is 1001, slots as the master has them.
+    let taken = Engine { frame: 1, slot: 17, held: 1, sending: 0xFFF9, ..selected };
+    assert_eq!(seen(&mut record, &[5]), taken, "not cut, RXD means nothing");
+    for (slot, held) in [(18, 1), (20, 0), (22, 0)] {
+        assert_eq!(seen(&mut record, &[0]), Engine { slot, held, ..taken }, "a data bit's fall");
+        let after = Engine { slot: slot + 1, held, ..taken };
+        assert_eq!(seen(&mut record, &[5]), after, "its rise");
+    }
+    assert_eq!(seen(&mut record, &[0]), Engine { slot: 24, ..taken }, "the last one's fall");
+    let over = Engine { frame: 0, slot: 25, ..taken };
+    assert_eq!(seen(&mut record, &[5]), over, "the last one's rise");
+    assert_eq!(seen(&mut record, &[0]), selected, "and it ends");
+    assert_eq!(seen(&mut record, &[5]), first, "next frame");
+    assert_eq!(seen(&mut record, &[2]), CLEAR, "FSS HIGH");
+}
+
+#[test]
+fn microwire_slave_with_other_edges() {
+    let mut record = enabled(0x20, 6, 1, &[]);
+    assert_eq!(seen(&mut record, &[0, 1, 0, 1]), CLEAR, "clocks before a selection");
+    assert_eq!(seen(&mut record, &[3, 2, 3]), CLEAR, "clocks with FSS HIGH");
+    let selected = Engine { selected: 1, ..CLEAR };
+    assert_eq!(seen(&mut record, &[0]), selected, "FSS and CLK fall");
+    seen(&mut record, &[2]);
+    let first = Engine { frame: 1, captured: 1, receiving: 1, ..selected };
+    assert_eq!(seen(&mut record, &[5]), first, "FSS falls, CLK rises");
+    assert_eq!(seen(&mut record, &[2, 0]), selected, "and starts anew");
+    let mut loopback = enabled(0x20, 7, 1, &[]);
+    let low = Engine { receiving: 0, ..first };
+    assert_eq!(seen(&mut loopback, &[2, 0, 5]), low, "its own TXD");
+    assert_eq!(seen(&mut loopback, &[0, 5]), Engine { captured: 2, ..low });
+}
+
+/// The longest word ends in slot 49, and zeros are a word like any other.
+#[test]
+fn microwire_slave_of_sixteen_bits() {
+    // DSS 15.
+    let mut record = enabled(0x2C, 6, 1, &[]);
+    let clock = |n: usize| [0, 1].repeat(n);
+    seen(&mut record, &[2, 2]);
+    let eight = Engine { frame: 1, selected: 1, captured: 8, ..CLEAR };
+    assert_eq!(seen(&mut record, &clock(8)), eight);
+    assert_eq!(seen(&mut record, &clock(1)), Engine { slot: 17, captured: 0, ..eight });
+    assert_eq!(seen(&mut record, &clock(15)), Engine { slot: 47, captured: 0, ..eight });
+    let over = Engine { frame: 0, slot: 49, captured: 0, ..eight };
+    assert_eq!(seen(&mut record, &clock(1)), over);
+    assert_eq!(seen(&mut record, &clock(1)), Engine { captured: 1, ..eight }, "next frame");
+}
+
 /// Bytes 12 to 23 that fit nothing.
 fn odd(mut record: Record) -> Record {
     let bytes = [0, 1, 1, 3, 0, 1, 0, 0, 0x34, 0x12, 0x78, 0x56];
@@ -204,6 +270,9 @@ fn odd_records() {
     assert_eq!(cycles(&mut slot, &[0]).frame, 1, "then the word starts");
 
     let mut microwire = odd(enabled(0x20, 6, 1, &[0xF]));
+    let before = engine(&microwire);
+    assert_eq!(cycles(&mut microwire, &[0; 9]), before, "no edge, no change");
+    microwire[at::PINS + 1] = 2;
     assert_eq!(cycles(&mut microwire, &[0]), CLEAR);
     let mut high = odd(enabled(0x00, 6, 1, &[0xF]));
     high[at::SLOT] = 5;

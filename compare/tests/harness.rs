@@ -2,7 +2,7 @@
 
 use compare::bench::Bench;
 use compare::cases::{run, Plan};
-use compare::fault::{Faulty, FAULTS};
+use compare::fault::{Faulty, FAULTS, MICROWIRE_FAULTS};
 use compare::model::Second;
 
 const PLAN: Plan = Plan { seed: 77, rounds: 16, limit: None };
@@ -20,5 +20,18 @@ fn each_fault_is_found() {
         let faulty = Faulty(number);
         let mut bench = Bench::new(&Second, &faulty);
         assert!(run(&mut bench, &PLAN).is_err(), "fault {number}");
+    }
+}
+
+/// A Microwire slave gets far enough in a few rounds, whatever the seed.
+#[test]
+fn each_microwire_fault_is_found_soon() {
+    for number in MICROWIRE_FAULTS {
+        for seed in 1..=10 {
+            let faulty = Faulty(number);
+            let mut bench = Bench::new(&Second, &faulty);
+            let plan = Plan { seed: seed << 32, rounds: 4, limit: None };
+            assert!(run(&mut bench, &plan).is_err(), "fault {number}, seed {seed}");
+        }
     }
 }

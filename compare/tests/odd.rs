@@ -1,4 +1,5 @@
-//! Sound records whose engine does not fit itself, as D95 to D105 have them.
+//! Sound records whose engine does not fit itself, as D95 to D105 have them, and D110
+//! for a Microwire slave.
 
 use compare::device::{Device, Queue, CLK, DATA, FSS};
 
@@ -187,4 +188,129 @@ fn d105_a_mark_within_a_word() {
     last.cycle(0);
     assert_eq!((engine(&last), last.mark), (CLEAR, true));
     assert_eq!(last.rx.words(), [14]);
+}
+
+/// A selected Microwire slave in a frame, its word 1001; the next cycle sees this edge.
+fn microwire(slot: u8, clk: u8) -> Device {
+    let selected = Device { selected: true, ..frame(MICROWIRE, SLAVE) };
+    Device { slot, sending: 9, pins: edge(clk, 0), ..selected }
+}
+
+/// The four levels that 1001 has, by the slot from which each is out.
+fn microwire_bit(slot: u8) -> bool {
+    slot == 18 || slot == 24
+}
+
+/// Frame, captured bits and slot mean what they mean alone, whatever the others are.
+#[test]
+fn microwire_slots_from_the_word_on() {
+    // For slots 17 to 28, b 4: where a rise and a fall lead; 0 is the end.
+    let rises = [17, 19, 19, 21, 21, 23, 23, 25, 25, 26, 27, 28];
+    let falls = [18, 18, 20, 20, 22, 22, 24, 24, 0, 0, 0, 0];
+    for slot in 17..=28 {
+        for (frame, captured, held) in
+            [(true, 0, false), (false, 0, true), (true, 5, true), (false, 8, false)]
+        {
+            let odd = Device { frame, captured, held, receiving: 0xF0, ..microwire(slot, CLK) };
+            let mut rising = odd.clone();
+            let lines = rising.cycle(0);
+            let next = rises[usize::from(slot) - 17];
+            assert_eq!(rising.slot, next, "rise in {slot}");
+            let ended = slot == 24;
+            assert_eq!(engine(&rising), (frame && !ended, captured, held, 9, 0xF0));
+            let shown = if held { 0x6 } else { 0x2 };
+            assert_eq!(lines, if slot == 17 { 0xA } else { shown }, "rise in {slot}");
+
+            let mut falling = Device { pins: edge(0, 0), ..odd };
+            let lines = falling.cycle(0);
+            let next = falls[usize::from(slot) - 17];
+            assert_eq!((falling.slot, falling.selected), (next, true), "fall in {slot}");
+            let held = if next == slot { held } else { microwire_bit(next) };
+            let kept = (frame, captured, held, 9, 0xF0);
+            assert_eq!(engine(&falling), if next == 0 { CLEAR } else { kept });
+            let shown = if held { 0x6 } else { 0x2 };
+            assert_eq!(lines, if next == 0 { 0xA } else { shown }, "fall in {slot}");
+            assert!(rising.rx.is_empty() && falling.rx.is_empty());
+        }
+    }
+}
+
+/// Slots 1 to 16 act as 0, and stay until the word is taken.
+#[test]
+fn microwire_slots_before_the_word() {
+    for slot in 0..=16 {
+        // An odd level is not shown, and not captured in loopback.
+        for (cr1, bit) in [(SLAVE, 1), (SLAVE | 1, 0)] {
+            let odd = Device { cr1, slot, held: true, receiving: 2, ..microwire(slot, CLK) };
+            let pins = [0, CLK | DATA, 0];
+            let mut latch = Device { frame: false, captured: 3, pins, ..odd.clone() };
+            assert_eq!((latch.cycle(0), latch.slot), (0xA, slot));
+            assert_eq!(engine(&latch), (true, 4, true, 9, 4 | bit));
+        }
+        let tx = queue(&[5]);
+        let mut taken =
+            Device { frame: false, captured: 8, held: true, tx, ..microwire(slot, CLK) };
+        assert_eq!((taken.cycle(0), taken.slot), (0xA, 17));
+        assert_eq!(engine(&taken), (true, 0, false, 5, 0));
+        assert!(taken.rx.is_empty() && taken.tx.is_empty());
+        let mut fall = Device { captured: 8, held: true, receiving: 2, ..microwire(slot, 0) };
+        assert_eq!((fall.cycle(0), fall.slot), (0xA, slot));
+        assert_eq!(engine(&fall), (true, 8, true, 9, 2));
+    }
+}
+
+#[test]
+fn microwire_control_byte_is_cut() {
+    for dss in [3, 7, 15] {
+        let odd = Device { cr0: 0x20 | dss, captured: 7, receiving: 0xFFC1, ..microwire(0, CLK) };
+        let mut slave = Device { pins: [0, CLK | DATA, 0], ..odd };
+        slave.cycle(0);
+        // FFC1 shifted, with a one behind it.
+        assert_eq!((slave.rx.words(), slave.receiving), (&[0x83][..], 0xFF83));
+        assert_eq!((slave.captured, slave.frame), (8, true));
+    }
+}
+
+/// What is not selected neither acts nor shows, until a fall of FSS.
+#[test]
+fn microwire_without_a_selection() {
+    for slot in [0, 16, 17, 18, 24, 25, 28] {
+        for clk in [0, CLK] {
+            let odd = Device { captured: 8, held: true, receiving: 3, ..microwire(slot, clk) };
+            let mut slave = Device { selected: false, ..odd };
+            assert_eq!((slave.cycle(0), slave.slot, slave.selected), (0xA, slot, false));
+            assert_eq!(engine(&slave), (true, 8, true, 9, 3));
+        }
+    }
+}
+
+/// Elapsed cycles and mark stay as they are, but not when all starts anew.
+#[test]
+fn microwire_unused_fields() {
+    for (slot, captured, clk, kept) in [
+        (0, 2, CLK, true),
+        (0, 8, CLK, true),
+        (0, 8, 0, true),
+        (17, 0, 0, true),
+        (18, 0, CLK, true),
+        (24, 0, CLK, true),
+        (25, 0, 0, false),
+        (28, 0, 0, false),
+    ] {
+        let odd = Device { cpsr: 8, gone: 3, mark: true, captured, ..microwire(slot, clk) };
+        let mut slave = odd.clone();
+        slave.cycle(0);
+        assert_eq!((slave.mark, slave.gone), if kept { (true, 3) } else { (false, 0) });
+        for (pins, selected) in [([0, 0, FSS], true), ([0, FSS, 0], false), ([0, FSS, FSS], false)]
+        {
+            let mut slave = Device { pins, ..odd.clone() };
+            assert_eq!((slave.cycle(0), slave.selected), (0xA, selected));
+            assert_eq!((slave.mark, slave.gone, slave.slot), (false, 0, 0));
+            assert_eq!(engine(&slave), CLEAR);
+        }
+        // A fall of FSS, then the edge of the same cycle: the first control bit.
+        let mut slave = Device { pins: [0, CLK | DATA, FSS], ..odd };
+        assert_eq!((slave.cycle(0), slave.slot, slave.gone), (0xA, 0, 0));
+        assert_eq!(engine(&slave), (true, 1, false, 0, 1));
+    }
 }

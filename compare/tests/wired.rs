@@ -55,22 +55,34 @@ fn expected(before: &[u32], words: &[u32], b: u32) -> (Vec<u32>, u8) {
 }
 
 fn slot_total(format: u32, b: u64, n: u64) -> u64 {
-    match format & 0x90 {
+    match format & 0xB0 {
         _ if n == 0 => 0,
         0x00 => n * (2 * b + 4),
         0x80 => 2 * b * n + 4,
-        _ => 2 * b * n + 2,
+        0x10 => 2 * b * n + 2,
+        _ => n * (2 * b + 18) + 3,
     }
 }
 
-fn one_pair(random: &mut Random) {
-    let b = 4 + random.below(13) as u32;
+/// CR0 of master and slave: the same but for SPO and SPH in Microwire, where these mean
+/// nothing.
+fn formats(random: &mut Random, microwire: bool, b: u32) -> (u32, u32) {
+    if microwire {
+        let mut any = || (random.below(4) as u32) << 6 | 0x20 | (b - 1);
+        return (any(), any());
+    }
     let format = random.pick(&[0x00, 0x40, 0x80, 0xC0, 0x10]) | (b - 1);
+    (format, format)
+}
+
+fn one_pair(random: &mut Random, microwire: bool) {
+    let b = 4 + random.below(13) as u32;
+    let (format, other) = formats(random, microwire, b);
     let h = 6 + random.below(5) as u32;
     let (master_words, slave_words) = (random_words(random), random_words(random));
     let mut master = set_up(random, format, 2 * h, 0, &master_words);
     let speed = 2 + 2 * random.below(9) as u32;
-    let mut slave = set_up(random, format, speed, 4, &slave_words);
+    let mut slave = set_up(random, other, speed, 4, &slave_words);
     pair_run(&mut master, &mut slave, 4 + random.below(5));
     assert_eq!(write(&mut slave, CR1, 6), 0);
     pair_run(&mut master, &mut slave, random.pick(&[0, 0, 1, 2, 7, 50]));
@@ -85,8 +97,10 @@ fn one_pair(random: &mut Random) {
     assert!(cycles <= slot_total(format, u64::from(b), n as u64) * u64::from(h));
     let mut answers = slave_words;
     answers.resize(8, 0);
+    // A Microwire master sends control bytes.
+    let sent = if microwire { 8 } else { b };
     for _ in 0..3 {
-        let (words, lost) = expected(&before[1], &master_words, b);
+        let (words, lost) = expected(&before[1], &master_words, sent);
         assert_eq!((held(&slave), slave[at::ROR]), (words, lost), "slave, cr0 {format:x} h {h}");
         let (words, lost) = expected(&before[0], &answers[..n], b);
         assert_eq!((held(&master), master[at::ROR]), (words, lost), "master, cr0 {format:x} h {h}");
@@ -98,6 +112,14 @@ fn one_pair(random: &mut Random) {
 fn every_word_comes_across() {
     let mut random = Random::new(0x0301);
     for _ in 0..600 {
-        one_pair(&mut random);
+        one_pair(&mut random, false);
+    }
+}
+
+#[test]
+fn every_word_comes_across_in_microwire() {
+    let mut random = Random::new(0x0302);
+    for _ in 0..600 {
+        one_pair(&mut random, true);
     }
 }

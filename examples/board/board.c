@@ -1,6 +1,6 @@
 /*
- * board.c: a board with a PL022 master and, wired to it, a PL022 slave (Motorola, TI) or a
- * Microwire peripheral. Each format carries a message both ways; both ends are compared with it.
+ * board.c: a board with a PL022 master and, wired to it, a PL022 slave or a Microwire peripheral.
+ * Each format carries a message both ways; both ends are compared with it.
  *
  * Exit status 0 if all words and all refusals were as expected, otherwise 1.
  */
@@ -34,6 +34,7 @@ struct board {
     char title[48];
     struct port master, slave;
     struct peripheral peripheral;
+    bool peripheral_wired;              /* to the master, in place of the slave */
     struct recording first_frame;
     unsigned cycles;                    /* since the master was enabled */
 };
@@ -41,6 +42,12 @@ struct board {
 static unsigned slot_cycles(const struct settings *settings)
 {
     return settings->cpsr / 2 * (1 + settings->scr);
+}
+
+/* The bits of a word that the master sends; in Microwire they are a control byte. */
+static unsigned sent_bits(const struct settings *settings)
+{
+    return settings->format == PL022_CR0_FRF_MICROWIRE ? CONTROL_BITS : settings->bits;
 }
 
 static void cut_words(uint16_t *to, const uint16_t *from, size_t count, unsigned bits)
@@ -59,7 +66,7 @@ static void run_pair(struct board *board, uint64_t cycles)
 }
 
 /* As in the wired pair, a level that the peripheral drives reaches the master one cycle later. */
-static void run_microwire(struct board *board)
+static void run_peripheral(struct board *board)
 {
     uint8_t input = board->peripheral.rxd, output;
 
@@ -91,8 +98,8 @@ static void advance(struct board *board, unsigned cycles)
     struct recording *recording = &board->first_frame;
 
     for (unsigned i = 0; i < cycles; i++) {
-        if (board->settings->format == PL022_CR0_FRF_MICROWIRE)
-            run_microwire(board);
+        if (board->peripheral_wired)
+            run_peripheral(board);
         else
             run_pair(board, 1);
         if (board->cycles % slot_cycles(board->settings) == 0 &&
@@ -222,7 +229,7 @@ static void compare_recording(const struct board *board, uint16_t sent, uint16_t
     bool microwire = settings->format == PL022_CR0_FRF_MICROWIRE;
     unsigned first = capture_slot(settings, 0);
     uint16_t txd = recorded_word(board->first_frame.lines, microwire ? 1 : first,
-                                 microwire ? CONTROL_BITS : settings->bits);
+                                 sent_bits(settings));
     uint16_t rxd = recorded_word(board->first_frame.pins, first, settings->bits);
 
     compare(board, "TXD of the first frame carried", &txd, 1, &sent, 1);
@@ -256,6 +263,7 @@ static void open_exchange(struct board *board, const struct settings *settings, 
     char mode[16] = "";
 
     board->settings = settings;
+    board->peripheral_wired = false;
     board->cycles = 0;
     board->first_frame.slots = 0;
     if (settings->format == PL022_CR0_FRF_MOTOROLA)
@@ -270,20 +278,27 @@ static void open_exchange(struct board *board, const struct settings *settings, 
 static void begin(struct board *board, struct transfer *master)
 {
     port_setup(&board->master, board->settings, 0);
-    transfer_start(master, &board->master, master_words, board->settings->words);
+    transfer_start(master, &board->master, master_words,
+                   board->settings->words, board->settings->words);
 }
 
 /*
  * The slave is enabled after the lines have come to rest, and before the master. Otherwise edges
  * left over from the last format count: a TI slave would take a fall of CLK with FSS HIGH for a
- * start, and a Motorola slave that has not seen FSS HIGH would miss the first frame.
+ * start, and any other slave that has not seen FSS HIGH would miss the first frame.
  */
 static void begin_pair(struct board *board, struct transfer *master,
                        struct transfer *slave, size_t slave_count)
 {
+    struct settings slave_settings = *board->settings;
+
+    if (slave_settings.format == PL022_CR0_FRF_MICROWIRE) {
+        slave_settings.spo = !slave_settings.spo;   /* both count in Motorola only */
+        slave_settings.sph = !slave_settings.sph;
+    }
     begin(board, master);
-    port_setup(&board->slave, board->settings, PL022_CR1_MS);
-    transfer_start(slave, &board->slave, slave_words, slave_count);
+    port_setup(&board->slave, &slave_settings, PL022_CR1_MS);
+    transfer_start(slave, &board->slave, slave_words, slave_count, board->settings->words);
     run_pair(board, SETTLE_CYCLES);
     port_enable(&board->slave);
     port_enable(&board->master);
@@ -304,10 +319,10 @@ static void exchange(struct board *board, struct transfer *master, struct transf
 static void print_pair(const struct board *board, const struct transfer *master,
                        const struct transfer *slave)
 {
-    unsigned bits = board->settings->bits;
+    unsigned bits = board->settings->bits, to_slave = sent_bits(board->settings);
 
-    print_sent("master sent", master->words, master->sent, bits);
-    print_words("slave received", slave->answer, slave->received, bits);
+    print_sent("master sent", master->words, master->sent, to_slave);
+    print_words("slave received", slave->answer, slave->received, to_slave);
     print_sent("slave sent", slave->words, slave->sent, bits);
     print_words("master received", master->answer, master->received, bits);
     print_recording(board);
@@ -315,18 +330,20 @@ static void print_pair(const struct board *board, const struct transfer *master,
     print_polls("slave", slave);
 }
 
-static void exchange_pair(struct board *board, const struct settings *settings)
+/* Where the slave has no answer, the master receives zeros. */
+static void exchange_wired(struct board *board, const struct settings *settings,
+                           size_t answers, const char *remark)
 {
     struct transfer master, slave;
-    uint16_t to_slave[MAX_WORDS], to_master[MAX_WORDS];
+    uint16_t to_slave[MAX_WORDS], to_master[MAX_WORDS] = { 0 };
 
-    open_exchange(board, settings, "");
-    begin_pair(board, &master, &slave, settings->words);
+    open_exchange(board, settings, remark);
+    begin_pair(board, &master, &slave, answers);
     exchange(board, &master, &slave);
     print_pair(board, &master, &slave);
 
-    cut_words(to_slave, master_words, settings->words, settings->bits);
-    cut_words(to_master, slave_words, settings->words, settings->bits);
+    cut_words(to_slave, master_words, settings->words, sent_bits(settings));
+    cut_words(to_master, slave_words, answers, settings->bits);
     compare(board, "slave received", slave.answer, slave.received, to_slave, settings->words);
     compare(board, "master received", master.answer, master.received, to_master, settings->words);
     compare_recording(board, to_slave[0], to_master[0]);
@@ -334,14 +351,27 @@ static void exchange_pair(struct board *board, const struct settings *settings)
     compare_overruns(board, &slave, 0);
 }
 
+static void exchange_pair(struct board *board, const struct settings *settings)
+{
+    exchange_wired(board, settings, settings->words, "");
+}
+
+/* The slave's driver has one answer fewer than the master has control bytes. */
 static void exchange_microwire(struct board *board, const struct settings *settings)
+{
+    exchange_wired(board, settings, settings->words - 1,
+                   ", a control byte for each; the slave has other SPO and SPH, and one answer too few");
+}
+
+static void exchange_peripheral(struct board *board, const struct settings *settings)
 {
     struct peripheral *peripheral = &board->peripheral;
     struct transfer master;
     uint16_t to_peripheral[MAX_WORDS], to_master[MAX_WORDS];
 
     *peripheral = (struct peripheral){ .bits = settings->bits, .lines = PL022_FSS };
-    open_exchange(board, settings, ", a control byte for each");
+    open_exchange(board, settings, ", a control byte for each; a peripheral that is no PL022");
+    board->peripheral_wired = true;
     begin(board, &master);
     port_enable(&board->master);
     exchange(board, &master, NULL);
@@ -393,14 +423,17 @@ static void exchange_late(struct board *board)
 int main(void)
 {
     /* With a PL022 slave a slot has at least 6 cycles; the peripheral here has no such limit. */
-    static const struct settings exchanges[] = {
-        { PL022_CR0_FRF_MOTOROLA,  0, 0,  8, 12, 0, 12 },
-        { PL022_CR0_FRF_MOTOROLA,  0, 1, 12,  4, 2,  8 },
-        { PL022_CR0_FRF_MOTOROLA,  1, 0,  4,  2, 5, 10 },
-        { PL022_CR0_FRF_MOTOROLA,  1, 1, 16, 14, 0, 12 },
-        { PL022_CR0_FRF_MICROWIRE, 0, 0, 10,  2, 0, 12 },
-        { PL022_CR0_FRF_MICROWIRE, 0, 0, 16,  4, 1,  3 },
-        { PL022_CR0_FRF_TI,        0, 0,  9,  6, 1, 11 },
+    static const struct {
+        struct settings settings;
+        void (*run)(struct board *board, const struct settings *settings);
+    } exchanges[] = {
+        { { PL022_CR0_FRF_MOTOROLA,  0, 0,  8, 12, 0, 12 }, exchange_pair },
+        { { PL022_CR0_FRF_MOTOROLA,  0, 1, 12,  4, 2,  8 }, exchange_pair },
+        { { PL022_CR0_FRF_MOTOROLA,  1, 0,  4,  2, 5, 10 }, exchange_pair },
+        { { PL022_CR0_FRF_MOTOROLA,  1, 1, 16, 14, 0, 12 }, exchange_pair },
+        { { PL022_CR0_FRF_MICROWIRE, 0, 0, 10,  2, 0, 12 }, exchange_peripheral },
+        { { PL022_CR0_FRF_MICROWIRE, 1, 0,  6,  4, 2,  9 }, exchange_microwire },
+        { { PL022_CR0_FRF_TI,        0, 0,  9,  6, 1, 11 }, exchange_pair },
     };
     size_t count = sizeof exchanges / sizeof exchanges[0], words = 0;
     struct board board = { 0 };
@@ -408,11 +441,8 @@ int main(void)
     port_reset(&board.master, "master");
     port_reset(&board.slave, "slave");
     for (size_t i = 0; i < count; i++) {
-        if (exchanges[i].format == PL022_CR0_FRF_MICROWIRE)
-            exchange_microwire(&board, &exchanges[i]);
-        else
-            exchange_pair(&board, &exchanges[i]);
-        words += exchanges[i].words;
+        exchanges[i].run(&board, &exchanges[i].settings);
+        words += exchanges[i].settings.words;
         putchar('\n');
     }
     exchange_late(&board);

@@ -2,7 +2,7 @@
  * board.h: shared by the parts of the board example.
  *
  *     driver.c     the driver: sets up a port and moves words, by register accesses only
- *     peripheral.c a Microwire peripheral
+ *     peripheral.c a Microwire peripheral that is no PL022
  *     board.c      the board: clock, wires, the exchanges and the printed report
  *     refusals.c   provokes every refusal once on purpose
  */
@@ -40,7 +40,8 @@ struct settings {
 struct transfer {
     struct port *port;
     const uint16_t *words;
-    size_t count;               /* to send, and to receive */
+    size_t count;               /* to send */
+    size_t expected;            /* to receive */
     size_t sent, received;
     uint16_t answer[MAX_WORDS];
     unsigned polls;
@@ -61,7 +62,7 @@ void port_disable(struct port *port);
 void port_setup(struct port *port, const struct settings *settings, uint32_t role);
 void port_enable(struct port *port);
 void transfer_start(struct transfer *transfer, struct port *port,
-                    const uint16_t *words, size_t count);
+                    const uint16_t *words, size_t count, size_t expected);
 void transfer_poll(struct transfer *transfer);
 bool transfer_done(const struct transfer *transfer);
 

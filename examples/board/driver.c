@@ -120,9 +120,11 @@ void port_enable(struct port *port)
 
 /* Fills the transmit queue, so that the first words wait when the port is enabled. */
 void transfer_start(struct transfer *transfer, struct port *port,
-                    const uint16_t *words, size_t count)
+                    const uint16_t *words, size_t count, size_t expected)
 {
-    *transfer = (struct transfer){ .port = port, .words = words, .count = count };
+    *transfer = (struct transfer){
+        .port = port, .words = words, .count = count, .expected = expected
+    };
     transfer_poll(transfer);
 }
 
@@ -133,7 +135,7 @@ static void receive_words(struct transfer *transfer)
     uint16_t word;
 
     while (port_receive(transfer->port, &word)) {
-        if (transfer->received < transfer->count)
+        if (transfer->received < transfer->expected)
             transfer->answer[transfer->received] = word;
         transfer->received++;
     }
@@ -166,6 +168,6 @@ void transfer_poll(struct transfer *transfer)
 /* BSY as well, because a master's last word is received before its frame is over. */
 bool transfer_done(const struct transfer *transfer)
 {
-    return transfer->sent == transfer->count && transfer->received >= transfer->count &&
+    return transfer->sent == transfer->count && transfer->received >= transfer->expected &&
            !(port_read(transfer->port, PL022_SR) & PL022_SR_BSY);
 }

@@ -287,6 +287,19 @@ check "wired: words read back" equal "$(sed -n '13,17p' "$dir/answers" | tr '\n'
     '0 7;0 96;0 f;0 c5;0 3a;'
 like_other wired "$scripts/wired.txt" "$dir/answers"
 
+# slave NAME DIGITS WORD: what a slave puts out, a cycle each, and what it received.
+slave() {
+    run "$scripts/$1.txt"
+    check "$1: status" equal "$status" 0
+    check "$1: digits" equal "$(sed -n 5p "$dir/out")" "0 $2"
+    check "$1: word received" equal "$(sed -n '$p' "$dir/out")" "0 $3"
+}
+
+# Each sends 9: 6 is a driven HIGH, 2 a driven LOW, a is idle.
+slave slave_motorola aaaa66666622222222666666aa a
+slave slave_ti aaaaaaaa666622222222666aaaaa a
+slave slave_microwire aaaaaaaaaaaaaaaaaaaaaaaaaaaaaaaaaaaaaaaa6666222222226666aaaa a5
+
 # ---------------------------------------------------------------- vectors
 
 vectors=0
@@ -608,13 +621,15 @@ function random(n) {
 }
 function pick(list, n) { n = split(list, item, " "); return item[random(n) + 1] }
 function hex(n) { return sprintf("%x", n) }
+# Kind 4: a clock under a FSS that falls once, so that Microwire slaves get through a frame.
 function recording(n, kind, text, level, k) {
-    kind = random(4)
+    kind = random(5)
     level = random(8)
     for (k = 0; k < n; k++) {
         if (kind == 1) level = random(8)
         if (kind == 2) level = (int(k / 7) % 2) + 4 * (int(k / 14) % 2)
         if (kind == 3 && random(6) == 0) level = random(8)
+        if (kind == 4) level = k < 2 ? 2 : int(k / 2) % 2 + 4 * random(2)
         text = text level
     }
     if (random(40) == 0) text = text pick("8 9 a f")
@@ -628,6 +643,10 @@ function setting(d, kind) {
     if (kind < 10) return "w " d " 8 " hex(random(65536))
     if (kind == 10) return "w " d " " pick("14 20 24") " " random(16)
     return "w " d " " hex(4 * random(1100)) " " hex(random(4294967296))
+}
+# Enabled devices, mostly slaves: single settings seldom come to that.
+function set_up(d) {
+    return "w " d " 10 2\nw " d " 0 " pick(formats) "\nw " d " 4 " pick("2 6 6 6 e")
 }
 function command(d, kind) {
     d = random(2)
@@ -660,7 +679,7 @@ BEGIN {
         name = sprintf("%s/%03d", dir, file)
         count = 10 + random(30)
         broken = random(4) ? random(4) : 0
-        print "reset 0\nreset 1" >(name ".valid")
+        print "reset 0\nreset 1\n" set_up(0) "\n" set_up(1) >(name ".valid")
         for (n = 0; n < count; n++) {
             line = command()
             print line >(name ".valid")

@@ -11,9 +11,10 @@ use crate::record::LENGTH;
 
 /// Brings device 0 into some reached state.
 fn reach(bench: &mut Bench, random: &mut Random) -> Step<()> {
-    match random.below(3) {
+    match random.below(4) {
         0 => engine::slave(bench, random),
         1 => engine::change_of_role(bench, random),
+        2 => engine::microwire_slave(bench, random),
         _ => engine::master(bench, random),
     }
 }

@@ -1,8 +1,8 @@
 //! Runs and runs to idle in all formats, both roles.
 
 use super::accesses::{any, gentle};
-use super::settings::{self, disable, enabling, length, read, set_up, write, CR1, ICR, SSE};
-use super::waves::{noise, wave_for, Source};
+use super::settings::{self, disable, enabling, length, read, set_up, write, CR0, CR1, ICR, SSE};
+use super::waves::{bursts, noise, wave_for, Source};
 use crate::bench::{Bench, Step};
 use crate::random::Random;
 
@@ -44,15 +44,35 @@ pub fn slave(bench: &mut Bench, random: &mut Random) -> Step<()> {
         let cr1 = enabling(random, true);
         let cr0 = set_up(bench, random, 0, cr1)?;
         let wave = if random.percent(75) { wave_for(random, cr0) } else { noise(random, 1500) };
-        let mut source = Source::new(wave);
-        // Enabled somewhere in the waveform's first part.
-        let early = random.size(60);
-        let input = source.take(random, early);
-        settings::run(bench, 0, input)?;
-        write(bench, 0, CR1, cr1)?;
-        follow(bench, random, &mut source)?;
+        enable_and_follow(bench, random, cr1, wave)?;
     }
     Ok(())
+}
+
+/// A Microwire slave of any size, with clocks that reach all its data bits.
+pub fn microwire_slave(bench: &mut Bench, random: &mut Random) -> Step<()> {
+    for _ in 0..1 + random.below(3) {
+        let cr1 = enabling(random, true);
+        let cr0 = set_up(bench, random, 0, cr1)? & !0x30 | 0x20;
+        write(bench, 0, CR0, cr0)?;
+        let wave = match random.below(8) {
+            0 => noise(random, 800),
+            1 | 2 => wave_for(random, cr0),
+            _ => bursts(random, (cr0 & 15) as usize + 1),
+        };
+        enable_and_follow(bench, random, cr1, wave)?;
+    }
+    Ok(())
+}
+
+/// Enabled somewhere in the waveform's first part.
+fn enable_and_follow(bench: &mut Bench, random: &mut Random, cr1: u32, wave: Vec<u8>) -> Step<()> {
+    let mut source = Source::new(wave);
+    let early = random.size(60);
+    let input = source.take(random, early);
+    settings::run(bench, 0, input)?;
+    write(bench, 0, CR1, cr1)?;
+    follow(bench, random, &mut source)
 }
 
 fn follow(bench: &mut Bench, random: &mut Random, source: &mut Source) -> Step<()> {

@@ -2,7 +2,7 @@
 //! sound but odd.
 
 use super::damage::probe;
-use super::settings::{permitted_cr0, run, speed};
+use super::settings::{permitted_cr0, read, run, speed};
 use super::waves::noise;
 use crate::bench::{Bench, Step};
 use crate::command::Command;
@@ -20,7 +20,7 @@ pub fn near_the_limits(bench: &mut Bench, random: &mut Random) -> Step<()> {
     Ok(())
 }
 
-/// Engines whose fields do not fit each other, D95 to D105.
+/// Engines whose fields do not fit each other, D95 to D105 and D110.
 pub fn odd(bench: &mut Bench, random: &mut Random) -> Step<()> {
     for _ in 0..150 {
         let record = forge_odd(random);
@@ -30,6 +30,42 @@ pub fn odd(bench: &mut Bench, random: &mut Random) -> Step<()> {
         let input = noise(random, cycles);
         run(bench, 0, input)?;
         probe(bench, random)?;
+    }
+    Ok(())
+}
+
+/// Each slot of a Microwire slave of each size, with every flag, at edges of all kinds.
+pub fn microwire_slots(bench: &mut Bench, random: &mut Random) -> Step<()> {
+    for dss in 3..=15 {
+        for slot in 0..=2 * (dss + 1) + 20 {
+            for flags in 0..8 {
+                let record = forge_microwire(random, dss, slot, flags);
+                bench.load(0, &record);
+                bench.forget();
+                let cycles = random.pick(&[1, 1, 1, 2, 3]);
+                let input = noise(random, cycles);
+                run(bench, 0, input)?;
+            }
+        }
+    }
+    Ok(())
+}
+
+/// Captured bits on both sides of their limit, in every format, size and role.
+pub fn captured_bits(bench: &mut Bench, random: &mut Random) -> Step<()> {
+    for settings in (0..0x30).filter(|settings| settings & 15 >= 3) {
+        for cr1 in [2, 6] {
+            let mut record = forge_odd(random);
+            put(&mut record, at::CR0, settings, 2);
+            put(&mut record, at::CR1, cr1, 1);
+            put(&mut record, at::SLOT, 0, 1);
+            for captured in 0..18 {
+                put(&mut record, at::CAPTURED, captured, 1);
+                bench.load(0, &record);
+                bench.forget();
+                read(bench, 0, 0x0C)?;
+            }
+        }
     }
     Ok(())
 }
@@ -107,16 +143,50 @@ fn forge_odd(random: &mut Random) -> [u8; LENGTH] {
         put(&mut record, place, random.below(2) as u32, 1);
     }
     let (b, last) = sizes(&record);
-    let captured = random.below(u64::from(b)) as u32;
-    put(&mut record, at::CAPTURED, random.pick(&[0, b - 1, b, captured]), 1);
+    let most = most_captured(&record);
+    let captured = random.below(u64::from(most)) as u32;
+    put(&mut record, at::CAPTURED, random.pick(&[0, most - 1, most, captured]), 1);
     let slot = random.below(u64::from(last)) as u32;
-    put(&mut record, at::SLOT, random.pick(&[0, 1, 2 * b, last - 1, last, slot]), 1);
+    let mut slots = vec![0, 1, 2 * b, last - 1, last, slot];
+    if is_microwire(&record) {
+        // The wait, and where the last data bit ends.
+        slots.extend([16, 17, 18, 2 * b + 16, 2 * b + 17, 2 * b + 18]);
+    }
+    put(&mut record, at::SLOT, random.pick(&slots), 1);
     put(&mut record, at::GONE, random.pick(&[0, 0, h - 1]), 2);
     if random.percent(75) {
-        // A Motorola slave acts with FSS LOW.
+        // A Motorola or Microwire slave acts with FSS LOW.
         record[at::PINS..at::PINS + 3].iter_mut().for_each(|pins| *pins &= !FSS);
     }
     record
+}
+
+/// A Microwire slave in this slot; bits of the flags: frame, selected, level.
+fn forge_microwire(random: &mut Random, dss: u32, slot: u32, flags: u32) -> [u8; LENGTH] {
+    let mut record = forge_odd(random);
+    let settings = (random.below(4) as u32) << 6 | 0x20 | dss;
+    put(&mut record, at::CR0, settings, 2);
+    put(&mut record, at::CR1, random.pick(&[6, 6, 7, 14]), 1);
+    put(&mut record, at::SLOT, slot, 1);
+    for (i, place) in [at::FRAME, at::SELECTED, at::HELD].into_iter().enumerate() {
+        put(&mut record, place, flags >> i & 1, 1);
+    }
+    let captured = random.below(8) as u32;
+    put(&mut record, at::CAPTURED, random.pick(&[0, 7, 8, captured]), 1);
+    record
+}
+
+fn is_microwire(record: &[u8]) -> bool {
+    record[at::CR0] & 0x30 == 0x20
+}
+
+/// The limit of captured bits: b, but eight in a Microwire slave.
+fn most_captured(record: &[u8]) -> u32 {
+    if is_microwire(record) && record[at::CR1] & 4 != 0 {
+        8
+    } else {
+        sizes(record).0
+    }
 }
 
 /// b and the format's last slot.
@@ -136,7 +206,9 @@ fn forge_engine(random: &mut Random, record: &mut [u8], enabled: bool) {
         put(record, place, flag(random), 1);
     }
     put(record, at::RT_COUNT, up_to(random, (64 * h).saturating_sub(1)), 4);
-    put(record, at::CAPTURED, up_to(random, b), 1);
+    // Now and then by the limit of other devices.
+    let most = if random.percent(90) { most_captured(record) } else { random.pick(&[b, 8]) };
+    put(record, at::CAPTURED, up_to(random, most), 1);
     put(record, at::SLOT, up_to(random, last), 1);
     put(record, at::GONE, up_to(random, h.saturating_sub(1)), 2);
 }

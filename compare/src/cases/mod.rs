@@ -25,7 +25,7 @@ pub struct Plan {
 type Case = fn(&mut Bench, &mut Random) -> Step<()>;
 
 /// Name, the case, and in which rounds it runs: each n-th.
-const CASES: [(&str, Case, u64); 15] = [
+const CASES: [(&str, Case, u64); 18] = [
     ("accesses", accesses::sequence, 1),
     ("offsets", accesses::every_offset, 16),
     ("master", engine::master, 1),
@@ -41,6 +41,9 @@ const CASES: [(&str, Case, u64); 15] = [
     ("pair", pairs::pair, 1),
     ("pair refusals", pairs::refusals, 4),
     ("forged pair", forged::pair, 1),
+    ("microwire slave", engine::microwire_slave, 1),
+    ("microwire slots", forged::microwire_slots, 16),
+    ("captured bits", forged::captured_bits, 16),
 ];
 
 pub fn run(bench: &mut Bench, plan: &Plan) -> Step<u64> {

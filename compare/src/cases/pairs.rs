@@ -36,16 +36,19 @@ pub fn pair(bench: &mut Bench, random: &mut Random) -> Step<()> {
     Ok(())
 }
 
-/// A master and a slave with the same settings, either of them first.
+/// A master and a slave with settings that match, either of them first.
 fn matched(bench: &mut Bench, random: &mut Random) -> Step<()> {
     let master = random.size(2);
     let slave = 1 - master;
-    let cr0 = set_up(bench, random, master, 0)? & 0xFF & !0x20;
+    let cr0 = set_up(bench, random, master, 0)? & 0xFF;
+    let microwire = cr0 & 0x30 == 0x20;
+    // SPO and SPH mean nothing in Microwire, so those of the two need not be the same.
+    let other = if microwire { cr0 ^ (random.below(4) as u32) << 6 } else { cr0 };
     let half = if random.percent(85) { 6 + random.below(3) } else { 1 + random.below(6) };
     write(bench, master, CR0, cr0)?;
     write(bench, master, CPSR, 2 * half as u32)?;
     let (cpsr, scr) = speed(random);
-    write(bench, slave, CR0, cr0 | scr << 8)?;
+    write(bench, slave, CR0, other | scr << 8)?;
     write(bench, slave, CPSR, cpsr)?;
     write(bench, slave, CR1, 4)?;
     let count = random.below(9);
@@ -57,7 +60,8 @@ fn matched(bench: &mut Bench, random: &mut Random) -> Step<()> {
     pair_run(bench, later)?;
     write(bench, master, CR1, 2)?;
     if random.percent(50) {
-        pair_run(bench, 8 * 36 * half)?;
+        // Eight of the longest words.
+        pair_run(bench, 8 * half * if microwire { 51 } else { 36 })?;
     }
     Ok(())
 }

@@ -1,4 +1,4 @@
-//! Pin levels for runs: noise, and waveforms of a real master.
+//! Pin levels for runs: noise, waveforms of a real master, and clocks without one.
 
 use crate::device::{Device, CLK, DATA, FSS};
 use crate::random::Random;
@@ -6,13 +6,30 @@ use crate::random::Random;
 /// Levels of one kind of noise.
 pub fn noise(random: &mut Random, cycles: usize) -> Vec<u8> {
     let level = random.below(8) as u8;
-    match random.below(5) {
+    match random.below(6) {
         0 => vec![level; cycles],
         1 => (0..cycles).map(|_| random.below(8) as u8).collect(),
         2 => (0..cycles).map(|_| level & (CLK | FSS) | random.pick(&[0, DATA])).collect(),
         3 => sticky(random, cycles, 60),
-        _ => sticky(random, cycles, 15),
+        4 => sticky(random, cycles, 15),
+        _ => clocked(random, cycles),
     }
+}
+
+/// A clock with FSS LOW, so that a slave gets far; FSS is HIGH at first and in between.
+fn clocked(random: &mut Random, cycles: usize) -> Vec<u8> {
+    let often = random.pick(&[20, 50, 100]);
+    let high = random.size(3);
+    let mut clk = 0;
+    (0..cycles)
+        .map(|i| {
+            if random.percent(often) {
+                clk ^= CLK;
+            }
+            let fss = if i < high || random.below(300) == 0 { FSS } else { 0 };
+            clk | fss | random.pick(&[0, DATA])
+        })
+        .collect()
 }
 
 /// One pin changes this often in a hundred cycles.
@@ -58,7 +75,7 @@ pub fn wave_for(random: &mut Random, cr0: u32) -> Vec<u8> {
     let other = match random.below(10) {
         0 => cr0 ^ 0x40,
         1 => cr0 ^ 0x80,
-        2 => (cr0 & !0x3F) | random.pick(&[0x00, 0x10]) | (3 + random.below(13) as u32),
+        2 => (cr0 & !0x3F) | random.pick(&[0x00, 0x10, 0x20]) | (3 + random.below(13) as u32),
         _ => cr0,
     };
     let delay = random.size(20);
@@ -71,6 +88,41 @@ pub fn wave_for(random: &mut Random, cr0: u32) -> Vec<u8> {
         }
     }
     wave
+}
+
+/// Microwire frames of b data bits with an uneven clock: some whole and joined, some that
+/// FSS cuts short, RXD random throughout.
+pub fn bursts(random: &mut Random, b: usize) -> Vec<u8> {
+    let longest = random.pick(&[1, 1, 2, 5]);
+    let glitches = random.percent(20);
+    let frame = 18 + 2 * b;
+    let mut wave = Vec::new();
+    for _ in 0..1 + random.below(4) {
+        // FSS falls with CLK at rest, or with either edge of it.
+        let mut clk = random.pick(&[0, CLK]);
+        hold(random, &mut wave, FSS | clk, longest);
+        clk ^= random.pick(&[0, CLK]);
+        let slots = match random.below(5) {
+            0 => random.size(18),
+            1 => 18 + random.size(2 * b),
+            _ => frame * (1 + random.size(3)) + random.size(4),
+        };
+        for _ in 0..slots {
+            if glitches && random.below(60) == 0 {
+                hold(random, &mut wave, FSS | clk, 1);
+            }
+            hold(random, &mut wave, clk, longest);
+            clk ^= CLK;
+        }
+    }
+    wave
+}
+
+/// These levels for one or more cycles, each with any RXD.
+fn hold(random: &mut Random, wave: &mut Vec<u8>, pins: u8, longest: usize) {
+    for _ in 0..1 + random.size(longest) {
+        wave.push(pins | random.pick(&[0, DATA]));
+    }
 }
 
 /// Hands out a waveform piece by piece, and noise after its end.

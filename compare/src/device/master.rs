@@ -1,9 +1,6 @@
 //! The master: slot by slot, events in a slot's first cycle.
 
-use super::{Device, Format, CLK, DATA, FSS, NSSPOE};
-
-/// Control bits of a Microwire frame.
-const CONTROL_BITS: u8 = 8;
+use super::{Device, Format, CLK, CONTROL_BITS, DATA, FSS, NSSPOE};
 
 fn pack(clk: bool, fss: bool, data: bool, released: bool) -> u8 {
     let level = |on: bool, bit: u8| if on { bit } else { 0 };

@@ -23,6 +23,9 @@ const SSE: u8 = 2;
 const MS: u8 = 4;
 const SOD: u8 = 8;
 
+/// Control bits of a Microwire frame.
+const CONTROL_BITS: u8 = 8;
+
 #[derive(Clone, Copy, PartialEq, Eq, Debug)]
 pub enum Format {
     Motorola,
@@ -42,12 +45,12 @@ pub struct Device {
     pub rt_count: u32,
     /// A frame is in progress.
     pub frame: bool,
-    /// A Motorola slave is selected.
+    /// A Motorola or Microwire slave is selected.
     pub selected: bool,
     /// A TI slave has seen a start.
     pub mark: bool,
     pub captured: u8,
-    /// Slot of the next cycle.
+    /// Slot of the next cycle; in a Microwire slave the edges count it.
     pub slot: u8,
     /// Cycles of that slot already gone.
     pub gone: u16,
@@ -132,9 +135,18 @@ impl Device {
         (self.cr0 & 15) as u8 + 1
     }
 
-    /// The low b bits.
-    pub fn mask(&self) -> u16 {
-        (0xFFFF_u32 >> (16 - self.bits())) as u16
+    /// Bits of a word that comes in: a Microwire slave gets control bytes, whatever b is.
+    pub fn incoming_bits(&self) -> u8 {
+        if self.slave() && self.format() == Format::Microwire {
+            CONTROL_BITS
+        } else {
+            self.bits()
+        }
+    }
+
+    /// The low bits that an incoming word has.
+    fn incoming_mask(&self) -> u16 {
+        0xFFFF >> (16 - self.incoming_bits())
     }
 
     /// h, the cycles of a slot.
@@ -225,17 +237,17 @@ impl Device {
     }
 
     fn all_captured(&self) -> bool {
-        self.captured == self.bits()
+        self.captured == self.incoming_bits()
     }
 
-    /// Captures one bit, the last completes the word. More than b are ignored.
+    /// Captures one bit, the last completes the word. More than that are ignored.
     fn capture(&mut self, level: bool) {
         if self.all_captured() {
             return;
         }
         self.receiving = self.receiving << 1 | u16::from(level);
         self.captured += 1;
-        if self.all_captured() && !self.rx.push(self.receiving & self.mask()) {
+        if self.all_captured() && !self.rx.push(self.receiving & self.incoming_mask()) {
             self.ror = true;
         }
     }

@@ -1,6 +1,11 @@
 //! The slave: follows pins as they stood two cycles earlier.
 
-use super::{Device, Format, CLK, DATA, FSS, NSSPOE, SLAVE_IDLE};
+use super::{Device, Format, CLK, CONTROL_BITS, DATA, FSS, NSSPOE};
+
+/// Slots of a Microwire frame, counted as the master counts them: at the rise of the wait
+/// the slave takes its word, at the fall after it the first bit is out.
+const WORD_TAKEN: u8 = 2 * CONTROL_BITS + 1;
+const FIRST_BIT: u8 = WORD_TAKEN + 1;
 
 /// What the slave sees in one cycle: the pins, and those of the cycle before.
 #[derive(Clone, Copy)]
@@ -29,10 +34,7 @@ impl Device {
         match self.format() {
             Format::Motorola => self.motorola_slave(seen),
             Format::Ti => self.ti_slave(seen),
-            Format::Microwire => {
-                self.clear_engine();
-                SLAVE_IDLE
-            }
+            Format::Microwire => self.microwire_slave(seen),
         }
     }
 
@@ -82,7 +84,7 @@ impl Device {
         }
     }
 
-    /// Takes a word and drives its first bit.
+    /// Takes a word and holds its first bit; Motorola and TI show it at once.
     fn start_word(&mut self) {
         self.begin_word();
         self.held = self.bit(0);
@@ -132,6 +134,65 @@ impl Device {
             self.start_word();
         } else if self.frame {
             self.drive_bit();
+        }
+    }
+
+    fn microwire_slave(&mut self, seen: Seen) -> u8 {
+        if seen.high(FSS) {
+            self.clear_engine();
+        } else if seen.fell(FSS) {
+            self.await_control();
+        }
+        if self.selected && seen.rose(CLK) {
+            self.microwire_rise(seen);
+        } else if self.selected && seen.fell(CLK) {
+            self.microwire_fall();
+        }
+        // Not by the frame: the last bit is still out when the frame is over.
+        self.slave_lines(self.selected && self.slot >= FIRST_BIT)
+    }
+
+    /// Selected, and the next rising edge has the first control bit.
+    fn await_control(&mut self) {
+        self.clear_engine();
+        self.selected = true;
+    }
+
+    /// The slot that the rise of the last data bit leads to.
+    fn last_rise(&self) -> u8 {
+        WORD_TAKEN + 2 * self.bits()
+    }
+
+    fn microwire_rise(&mut self, seen: Seen) {
+        if self.slot < WORD_TAKEN {
+            self.control_rise(seen);
+        } else if self.slot % 2 == 0 && self.slot < self.last_rise() {
+            self.slot += 1;
+            if self.slot == self.last_rise() {
+                self.frame = false;
+            }
+        }
+    }
+
+    /// Latches a control bit, or takes the word in the clock after the eight.
+    fn control_rise(&mut self, seen: Seen) {
+        if self.all_captured() {
+            self.start_word();
+            self.slot = WORD_TAKEN;
+        } else {
+            self.frame = true;
+            // TXD is LOW now, so in loopback every control bit is.
+            self.capture(!self.loopback() && seen.high(DATA));
+        }
+    }
+
+    /// Ends a data bit: what follows it, the next one or none, shows at once.
+    fn microwire_fall(&mut self) {
+        if self.slot >= self.last_rise() {
+            self.await_control();
+        } else if self.slot >= WORD_TAKEN && self.slot % 2 == 1 {
+            self.held = self.bit((self.slot - WORD_TAKEN) / 2);
+            self.slot += 1;
         }
     }
 }

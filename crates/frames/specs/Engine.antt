@@ -49,7 +49,7 @@ withNextSlot e = withElapsed (withSlot e (slots (e .slot .0 + 1))) (cycles 0)
 abbrev pub loaded : ℕ → Shift
 loaded w = record { captured = 0; level = false; sending = w; receiving = 0 }
 
--- A word's first bit goes on TXD; its captures begin.
+-- A word's first bit becomes the data level; nothing is captured yet.
 unfoldable pub started : ℕ → ℕ → Shift
 started width w = record { captured = 0; level = bitOf width w 0; sending = w; receiving = 0 }
 

@@ -1,7 +1,7 @@
 -- The lines that a device drives, and the bytes of lines and pins.
 use Prim.Native.Nat.{ℕ, _+_}
 use mathlib.Core.Bool.{Bool, true, false, not, _&&_, _||_}
-use lib.Dec.{eqb}
+use lib.Dec.{leb, eqb}
 use Rattle.registers.specs.Choose.{pick, bitAt}
 use Rattle.registers.specs.declared.settings.Format.{Format}
 use Rattle.registers.specs.declared.settings.Format.the-variants.{Motorola, Ti, Microwire, Reserved}
@@ -57,11 +57,11 @@ masterLines s e =
     (frameLines s (levelsOf s (joinedTo e) (e .slot)) (masterTxd s e))
     (idleOn (s .format) (s .polarity))
 
--- A slave shows its data level while selected, in TI while in a word.
+-- A slave shows its data level while selected, in TI while in a word, in Microwire in its data bits: from slot 18 on, until the slot is 0 again.
 abbrev pub showsOn : Format → Engine → Bool
 showsOn Motorola e = e .selected
 showsOn Ti e = e .frame
-showsOn Microwire e = false
+showsOn Microwire e = e .selected && leb 18 (e .slot .0)
 showsOn Reserved e = false
 
 -- A slave drives CLK LOW and FSS HIGH; SOD keeps nSSPOE HIGH.

@@ -65,7 +65,7 @@ lastOn Reserved b = 0
 unfoldable pub lastSlot : Settings → Slots
 lastSlot s = slots (lastOn (s .format) (s .bits))
 
--- Words go out most significant of b bits first; Microwire: of the low 8.
+-- A master's words go out most significant of b bits first; in Microwire of the low 8.
 abbrev pub widthOn : Format → ℕ → ℕ
 widthOn Motorola b = b
 widthOn Ti b = b
@@ -76,9 +76,16 @@ widthOn Reserved b = b
 unfoldable pub widthOf : Settings → ℕ
 widthOf s = widthOn (s .format) (s .bits)
 
--- Received words have b bits.
+-- Received words have b bits; those of a Microwire slave are control bytes.
+abbrev pub captureOn : Format → Bool → ℕ → ℕ
+captureOn Motorola slave b = b
+captureOn Ti slave b = b
+captureOn Microwire slave b = pick slave 8 b
+captureOn Reserved slave b = b
+
+-- How many bits a word has that a device with these settings receives.
 abbrev pub captureWidth : Settings → ℕ
-captureWidth s = s .bits
+captureWidth s = captureOn (s .format) (s .slave) (s .bits)
 
 -- Motorola: the clock is active at 2 + 2i with SPH 0, at 1 + 2i with SPH 1; FSS and nSSPOE are LOW.
 unfoldable pub motorolaLevels : Bool → ℕ → ℕ → Levels

@@ -9,7 +9,7 @@ use registers::time::Slots;
 pub struct Shift {
     // bits captured of the word being received
     pub captured: u8,
-    // the data level held on TXD
+    // the data level held for TXD
     pub level: bool,
     pub sending: u16,
     pub receiving: u16,
@@ -19,11 +19,12 @@ pub struct Shift {
 pub struct Engine {
     // the cycles that have gone of a master's slot
     pub elapsed: Cycles,
+    // a master's, and a Microwire slave's from the wait on
     pub slot: Slots,
     pub shift: Shift,
     // a frame is in progress
     pub frame: bool,
-    // a Motorola slave is selected
+    // a Motorola or Microwire slave is selected
     pub selected: bool,
     // a TI slave has seen the mark of a start
     pub mark: bool,
@@ -107,7 +108,7 @@ pub fn loaded(word: u16) -> Shift
     }
 }
 
-// A word's first bit goes on TXD; its captures begin.
+// A word's first bit becomes the data level; nothing is captured yet.
 pub fn started(width: u16, word: u16) -> Shift
     ensures { λ r. ⌜ r ≡ started width word ⌝ }
 {

@@ -141,7 +141,7 @@ fn shows_on(f: Format, e: Engine) -> bool
     match f {
         Format::Motorola => e.selected,
         Format::Ti => e.frame,
-        Format::Microwire => false,
+        Format::Microwire => e.selected & (18 <= e.slot.0),
         Format::Reserved => false,
     }
 }

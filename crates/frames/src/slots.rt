@@ -165,7 +165,14 @@ pub fn width_of(s: Settings) -> u16
 pub fn capture_width(s: Settings) -> u8
     ensures { λ r. ⌜ r ≡ captureWidth s ⌝ }
 {
-    s.bits
+    let slave = s.slave;
+    let f = s.format;
+    match f {
+        Format::Motorola => s.bits,
+        Format::Ti => s.bits,
+        Format::Microwire => if slave { 8 } else { s.bits },
+        Format::Reserved => s.bits,
+    }
 }
 
 fn motorola_levels(phase: bool, b: u8, n: u16) -> Levels

@@ -1,5 +1,5 @@
 // Prints recordings of every format through the proved code, a line each: a name, then a digit a cycle.
-// What it must write was made before from the rules of docs/MODEL.md (P1 to P5) and by the second program in compare/.
+// What it must write was made before: P1 to P5 and the Microwire slaves by hand from the rules of docs/MODEL.md, the others by the second program in compare/.
 use libc::STDOUT_FILENO;
 use registers::access::Answer;
 use serial::Device;
@@ -334,12 +334,92 @@ fn slaves() {
         &[0x9, 0x6],
         b"2222004455001122220000114455445544554422222222",
     );
+}
+
+// Microwire slaves, a cycle a slot: one frame; two under one FSS LOW, and the same without a second word; FSS HIGH in the data bits; 16 bits.
+fn microwire_slaves() {
     driven(
         b"slave Microwire",
         0x0023,
         0x6,
         &[0x9],
         b"2222014501454501450101010101010222222",
+    );
+    driven(
+        b"slave Microwire two frames",
+        0x0023,
+        0x6,
+        &[0x9, 0x6],
+        b"222201450145450145010101010101450145010145014501010101010222222",
+    );
+    driven(
+        b"slave Microwire no second word",
+        0x0023,
+        0x6,
+        &[0x9],
+        b"222201450145450145010101010101450145010145014501010101010222222",
+    );
+    driven(
+        b"slave Microwire part frame",
+        0x0023,
+        0x6,
+        &[0x9, 0x6],
+        b"2222014501454501450101010122450145010145014501010101010222222",
+    );
+    driven(
+        b"slave Microwire 16 bits",
+        0x002F,
+        0x6,
+        &[0xBEEF],
+        b"2222454501010101454501010101010101010101010101010101010222222",
+    );
+    microwire_odd_pins();
+}
+
+// FSS falls with the first rise of CLK, and SOD is set; loopback; FSS HIGH in the control bits, and in the last data bit;
+// CLK HIGH when FSS falls; FSS LOW from the start.
+fn microwire_odd_pins() {
+    driven(
+        b"slave Microwire SOD, FSS with CLK",
+        0x00E3,
+        0xE,
+        &[0x9],
+        b"222250145010145014501010101010222222",
+    );
+    driven(
+        b"slave Microwire loopback",
+        0x0023,
+        0x7,
+        &[0x9],
+        b"2222014501454501450101010101010222222",
+    );
+    driven(
+        b"slave Microwire part control byte",
+        0x0023,
+        0x6,
+        &[0x9],
+        b"22220145014522450145010145014501010101010222222",
+    );
+    driven(
+        b"slave Microwire FSS HIGH in the last bit",
+        0x0023,
+        0x6,
+        &[0x9],
+        b"2222014501454501450101010101011133222",
+    );
+    driven(
+        b"slave Microwire CLK HIGH at FSS fall",
+        0x0023,
+        0x6,
+        &[0x9],
+        b"223310145014545014501010101010102222",
+    );
+    driven(
+        b"slave Microwire not selected",
+        0x0023,
+        0x6,
+        &[0x9],
+        b"0145014545014501010101010102222",
     );
 }
 
@@ -351,4 +431,5 @@ fn main() {
     microwire();
     receivers();
     slaves();
+    microwire_slaves();
 }

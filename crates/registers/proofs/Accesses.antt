@@ -1,8 +1,9 @@
 -- What a done write says, and what an access leaves of CR0, CR1 and CPSR.
-use Prim.Native.Nat.{ℕ, _≤_, _<_}
-use mathlib.Core.Path.{_≡_, refl, sym, _∙_}
+use Prim.Native.Nat.{ℕ, _/_, _%_, _^_, _≤_, _<_}
+use mathlib.Core.Path.{_≡_, refl, sym, ap, _∙_}
 use mathlib.Core.Bool.{Bool, true, false, not, _&&_, _||_}
 use native.Mathlib.Omega.{arith}
+use native.Mathlib.Nat.{mod-eq-of-lt}
 use lib.Dec.{leb, eqb}
 use borrow.Author.Tests.{leb-false, eqb-true, eqb-false}
 use Rattle.registers.specs.Choose.{pick, bitAt, bitsDiffer}
@@ -12,6 +13,7 @@ use Rattle.registers.specs.Model.{Model}
 use Rattle.registers.specs.Offsets.{registerOf}
 use Rattle.registers.specs.Settings.{permittedOf}
 use Rattle.registers.specs.Access.{readRefusal, readDone, readModel, dataTaken, bitsBeyond, cr0Rule, cr1Rule, cpsrRule, writeRefusal, cr1Written, icrWritten, drWritten, imscWritten, dmacrWritten, writeDone, writeModel}
+use Rattle.registers.specs.declared.Control.{Control}
 use Rattle.registers.specs.declared.offsets.Register.{Register}
 use Rattle.registers.specs.declared.offsets.Register.the-variants.{Cr0, Cr1, Dr, Sr, Cpsr, Imsc, Ris, Mis, Icr, Dmacr, Identity, Reserved, Outside}
 
@@ -107,30 +109,39 @@ pub control-read : (m : Model) (o : ℕ) → readModel m o .control ≡ m .contr
 unfolding dataTaken
 control-read m o = read-either (λ (x : Model). x .control ≡ m .control) m refl o (λ _. refl)
 
--- a write leaves CR0 and CPSR while active
+-- a write leaves CR0, CPSR and MS while active: all that a running engine's bounds hang on
 
-pub record SameDivider (m n : Model) : Type 0 where
+pub record SameBounds (m n : Model) : Type 0 where
   pub cr0 : n .control .cr0 ≡ m .control .cr0
   pub cpsr : n .control .cpsr ≡ m .control .cpsr
+  pub role : bitAt (n .control .cr1) 2 ≡ bitAt (m .control .cr1) 2
 
-divider-written : (m : Model) (active : Bool) (p : Register) (v : ℕ) → active ≡ true → writeRefusal m active p v ≡ 0 → SameDivider m (writeDone m p v)
+bounds-control : (m n : Model) → n .control ≡ m .control → SameBounds m n
+bounds-control m n e = record { cr0 = ap (λ (c : Control). c .cr0) e; cpsr = ap (λ (c : Control). c .cpsr) e; role = ap (λ (c : Control). bitAt (c .cr1) 2) e }
+
+role-written : (m : Model) (active : Bool) (v : ℕ) → active ≡ true → Cr1Done m active v → bitAt (v % 0x10) 2 ≡ bitAt (m .control .cr1) 2
+role-written m active v e d =
+    let same = eqb-true (m .control .cr1 / 2 ^ 2 % 2) (v / 2 ^ 2 % 2) (under-off _ _ (d .stays e) .0) in
+    ap (λ (x : ℕ). bitAt x 2) (mod-eq-of-lt (d .small)) ∙ ap (λ (x : ℕ). eqb x 1) (sym same)
+
+bounds-written : (m : Model) (active : Bool) (p : Register) (v : ℕ) → active ≡ true → writeRefusal m active p v ≡ 0 → SameBounds m (writeDone m p v)
 unfolding cr1Written icrWritten drWritten imscWritten dmacrWritten
-divider-written m active Cr0 v e r = both-absurd active e (cr0-done m active v r .clear)
-divider-written m active Cr1 v e r = record { cr0 = refl; cpsr = refl }
-divider-written m active Dr v e r = record { cr0 = refl; cpsr = refl }
-divider-written m active Sr v e r = record { cr0 = refl; cpsr = refl }
-divider-written m active Cpsr v e r = both-absurd active e (cpsr-done m active v r .clear)
-divider-written m active Imsc v e r = record { cr0 = refl; cpsr = refl }
-divider-written m active Ris v e r = record { cr0 = refl; cpsr = refl }
-divider-written m active Mis v e r = record { cr0 = refl; cpsr = refl }
-divider-written m active Icr v e r = record { cr0 = refl; cpsr = refl }
-divider-written m active Dmacr v e r = record { cr0 = refl; cpsr = refl }
-divider-written m active (Identity i) v e r = record { cr0 = refl; cpsr = refl }
-divider-written m active Reserved v e r = record { cr0 = refl; cpsr = refl }
-divider-written m active Outside v e r = record { cr0 = refl; cpsr = refl }
+bounds-written m active Cr0 v e r = both-absurd active e (cr0-done m active v r .clear)
+bounds-written m active Cr1 v e r = record { cr0 = refl; cpsr = refl; role = role-written m active v e (cr1-done m active v r) }
+bounds-written m active Dr v e r = bounds-control m _ refl
+bounds-written m active Sr v e r = bounds-control m _ refl
+bounds-written m active Cpsr v e r = both-absurd active e (cpsr-done m active v r .clear)
+bounds-written m active Imsc v e r = bounds-control m _ refl
+bounds-written m active Ris v e r = bounds-control m _ refl
+bounds-written m active Mis v e r = bounds-control m _ refl
+bounds-written m active Icr v e r = bounds-control m _ refl
+bounds-written m active Dmacr v e r = bounds-control m _ refl
+bounds-written m active (Identity i) v e r = bounds-control m _ refl
+bounds-written m active Reserved v e r = bounds-control m _ refl
+bounds-written m active Outside v e r = bounds-control m _ refl
 
-pub divider-write : (m : Model) (active : Bool) (o v : ℕ) → active ≡ true → SameDivider m (writeModel m active o v)
+pub bounds-write : (m : Model) (active : Bool) (o v : ℕ) → active ≡ true → SameBounds m (writeModel m active o v)
 unfolding writeModel
-divider-write m active o v e =
-    pick-both (λ (x : Model). SameDivider m x) (eqb (writeRefusal m active (registerOf o) v) 0) _ _
-    (λ r. divider-written m active (registerOf o) v e (eqb-true _ _ r)) (λ _. record { cr0 = refl; cpsr = refl })
+bounds-write m active o v e =
+    pick-both (λ (x : Model). SameBounds m x) (eqb (writeRefusal m active (registerOf o) v) 0) _ _
+    (λ r. bounds-written m active (registerOf o) v e (eqb-true _ _ r)) (λ _. bounds-control m _ refl)

@@ -5,11 +5,13 @@ pub mod Quiet
 pub mod Moves
 pub mod Turn
 pub mod Wiring
+pub mod Release
 pub mod Motorola
 pub mod Ends
 pub mod Phase0
 pub mod Phase1
 pub mod Ti
+pub mod Microwire
 pub mod Formats
 pub mod Finish
 pub mod Busy

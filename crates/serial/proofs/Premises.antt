@@ -2,7 +2,7 @@
 use Prim.{tt}
 use Prim.Native.Nat.{ℕ, _≤_}
 use mathlib.Core.Path.{_≡_, refl}
-use mathlib.Core.Logic.{inl}
+use mathlib.Core.Logic.{inl, inr}
 use native.Mathlib.Omega.{arith}
 use Rattle.registers.specs.Time.{cyclesOf}
 use Rattle.registers.specs.Offsets.{registerOf}
@@ -10,19 +10,19 @@ use Rattle.registers.specs.Settings.{formatOf, permittedOf, bitsOf, divisorOf, 
 use Rattle.registers.specs.Access.{readModel, cr0Rule, cr1Rule, cpsrRule, drRule, writeRefusal, cr0Written, cr1Written, cpsrWritten, drWritten, writeModel}
 use Rattle.registers.specs.Transfer.{added, endCycle}
 use Rattle.registers.specs.Sound.{controlSound, masksSound, queuesSound, countSound, soundRegisters}
-use Rattle.serial.specs.Slave.{motorolaSelect, captureEdge, driveEdge, motorolaClock, motorolaEdges, motorolaSlave, slaveStep}
+use Rattle.serial.specs.Slave.{motorolaSelect, captureEdge, driveEdge, motorolaClock, motorolaEdges, motorolaSlave, microwireEdges, microwireSlave, slaveStep}
 use Rattle.frames.specs.Lines.{masterLines, linesOf, masterTxd}
 use Rattle.serial.specs.Cycle.{stepOf, endOf, takeIf, receiveIf, deviceStep, cycleOf}
 use Rattle.serial.specs.Access.{readDevice, engineAfter, writeDevice}
 use Rattle.serial.specs.Sound.{stoppedSound, engineSound, soundDevice}
 use Rattle.serial.specs.Pair.{wire, pairCycle}
 use Rattle.serial.specs.Drawing.{slotTotal}
-use Rattle.serial.specs.Premises.{PairPremises, LastPremises}
+use Rattle.serial.specs.Premises.{motorola, microwire, microwireUnlike, PairPremises, LastPremises}
 
--- Those of the first part.
-pub pair-premises : PairPremises
+-- Those of the first part, for a Motorola pair.
+pub motorola-premises : PairPremises motorola motorola
 unfolding soundDevice soundRegisters controlSound masksSound queuesSound countSound engineSound stoppedSound settingsOf formatOf permittedOf bitsOf divisorOf enabledOf registerOf readDevice readModel writeDevice writeModel writeRefusal cr0Rule cr1Rule cpsrRule drRule cr0Written cr1Written cpsrWritten drWritten added engineAfter pairCycle wire cycleOf deviceStep stepOf endOf takeIf receiveIf endCycle linesOf masterLines masterTxd slaveStep motorolaSlave motorolaSelect motorolaEdges motorolaClock captureEdge driveEdge
-pair-premises =
+motorola-premises =
     record {
       start =
           record {
@@ -37,6 +37,42 @@ pair-premises =
             size = refl;
             polarity = refl;
             phase = refl;
+            divisor = let z : 6 ≤ 6 = omega arith in z;
+            is-master = refl;
+            is-slave = refl;
+            straight-master = refl;
+            straight-slave = refl;
+            output = refl;
+            off-master = refl;
+            off-slave = refl;
+            clear-master = refl;
+            clear-slave = refl;
+          };
+      four = let z : 4 ≤ 4 = omega arith in z;
+      stays-before = (refl, refl, (refl, refl, (refl, refl, (refl, refl, tt))));
+      stays-between = (refl, refl, (refl, refl, tt));
+      load-master = refl;
+      load-slave = refl;
+    }
+
+-- For a Microwire pair with unlike SPO and SPH.
+pub microwire-premises : PairPremises microwire microwireUnlike
+unfolding soundDevice soundRegisters controlSound masksSound queuesSound countSound engineSound stoppedSound settingsOf formatOf permittedOf bitsOf divisorOf enabledOf registerOf readDevice readModel writeDevice writeModel writeRefusal cr0Rule cr1Rule cpsrRule drRule cr0Written cr1Written cpsrWritten drWritten added engineAfter pairCycle wire cycleOf deviceStep stepOf endOf takeIf receiveIf endCycle linesOf masterLines masterTxd slaveStep microwireSlave microwireEdges
+microwire-premises =
+    record {
+      start =
+          record {
+            sound-master = refl;
+            sound-slave = refl;
+            permitted-master = refl;
+            permitted-slave = refl;
+            divided-master = λ e. let z : _≡_ {A = ℕ} 12 0 = e in omega arith;
+            divided-slave = λ e. let z : _≡_ {A = ℕ} 2 0 = e in omega arith;
+            serial = inr (inr refl);
+            format = refl;
+            size = refl;
+            polarity = tt;
+            phase = tt;
             divisor = let z : 6 ≤ 6 = omega arith in z;
             is-master = refl;
             is-slave = refl;

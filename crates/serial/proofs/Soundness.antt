@@ -1,19 +1,19 @@
 -- Reset is sound, and every access and every cycle keeps a device sound and within the bytes of a record.
-use Prim.Native.Nat.{ℕ, _+_, _*_, _%_, _^_, _≤_, _<_}
+use Prim.Native.Nat.{ℕ, _+_, _-_, _*_, _/_, _%_, _^_, _≤_, _<_}
 use mathlib.Core.Path.{_≡_, refl, sym, ap, _∙_}
 use mathlib.Core.Bool.{Bool, true, false, not, _&&_, _||_}
 use mathlib.Core.Logic.{inr}
 use native.Mathlib.Omega.{arith}
 use native.Mathlib.Nat.{mod-le}
 use lib.Dec.{ltb, leb, eqb}
-use borrow.Author.Tests.{ltb-true, leb-true, eqb-true, lt-ltb, le-leb, not-false}
+use borrow.Author.Tests.{ltb-true, leb-true, leb-false, eqb-true, lt-ltb, le-leb, not-false}
 use Rattle.registers.specs.Time.{slots}
-use Rattle.registers.specs.Choose.{pick}
+use Rattle.registers.specs.Choose.{pick, bitAt}
 use Rattle.registers.proofs.Picks.{pick-yes, pick-no, pick-both, and-left, and-right, and-both, and-off, not-elim}
 use Rattle.registers.specs.Model.{Model}
 use Rattle.registers.specs.Settings.{formatOf, bitsOf, divisorOf, enabledOf, settingsOf}
 use Rattle.registers.specs.Access.{writeModel, readModel}
-use Rattle.registers.proofs.Accesses.{SameDivider, control-read, divider-write}
+use Rattle.registers.proofs.Accesses.{SameBounds, control-read, bounds-write}
 use Rattle.registers.specs.Transfer.{waitingOf, nextWord, takeWord, receiveWord}
 use Rattle.registers.specs.Sound.{soundRegisters, registersFit}
 use Rattle.registers.proofs.Soundness.{ControlFacts, Enables, divisor-positive, divisor-most, bits-most}
@@ -23,11 +23,11 @@ use Rattle.registers.specs.declared.settings.Format.{Format}
 use Rattle.registers.specs.declared.settings.Format.the-variants.{Motorola, Ti, Microwire, Reserved}
 use Rattle.registers.specs.declared.settings.Settings.{Settings}
 use Rattle.frames.specs.Bits.{shiftedIn}
-use Rattle.frames.specs.Engine.{clearShift, cleared, withShift, loaded, started, driven, quieted, capturedOf, completes, noWord, captureStep}
-use Rattle.frames.specs.Slots.{motorolaEvent, tiEvent, microwireEvent, eventOn, eventOf, lastOn, lastSlot, widthOf}
+use Rattle.frames.specs.Engine.{clearShift, cleared, withShift, withFrame, withSlot, loaded, started, driven, quieted, capturedOf, completes, noWord, captureStep}
+use Rattle.frames.specs.Slots.{motorolaEvent, tiEvent, microwireEvent, eventOn, eventOf, lastOn, lastSlot, widthOf, captureOn, captureWidth}
 use Rattle.frames.specs.Lines.{masterTxd}
 use Rattle.frames.specs.Master.{joinedShift, act, resting, acting, dataBit, masterStep, ticked, masterEnd}
-use Rattle.serial.specs.Slave.{slaveTake, selectedOf, motorolaSelect, captureEdge, driveEdge, motorolaClock, motorolaEdges, motorolaSlave, withMark, tiFalls, tiRises, tiSlave, slaveOn, slaveStep, endedOn, wordOver, slaveEnd}
+use Rattle.serial.specs.Slave.{slaveTake, selectedOf, motorolaSelect, captureEdge, driveEdge, motorolaClock, motorolaEdges, motorolaSlave, withMark, tiFalls, tiRises, clockFalls, clockRises, tiSlave, ready, dataOver, dataRises, controlLeft, microwireRises, microwireFalls, microwireEdges, microwireSlave, slaveOn, slaveStep, endedOn, wordOver, slaveEnd}
 use Rattle.serial.specs.Cycle.{DeviceModel, resetDevice, stepOf, endOf, deviceStep, cycleOf, activeDevice}
 use Rattle.serial.proofs.Cycles.{step-keeps, control-cycle, step-stopped, cycle-stopped}
 use Rattle.serial.specs.Access.{readDevice, engineAfter, writeDevice}
@@ -49,7 +49,7 @@ pub record ShiftFacts (F : Type 0) (b : ℕ) (x : Shift) : Type 0 where
 pub record EngineFacts (F : Type 0) (s : Settings) (e : Engine) : Type 0 where
   pub slot : e .slot .0 ≤ lastSlot s .0
   pub elapsed : e .elapsed .0 < s .divisor .0
-  pub shift : ShiftFacts F (s .bits) (e .shift)
+  pub shift : ShiftFacts F (captureWidth s) (e .shift)
 
 pub record StepFacts (F : Type 0) (s : Settings) (r : Step) : Type 0 where
   pub engine : EngineFacts F s (r .engine)
@@ -133,8 +133,9 @@ module _ (F : Type 0) (b : ℕ) where
 -- The engine's steps -------------------------------------------------------------------------------------------------
 
 module _ (F : Type 0) (s : Settings) where
-  engine-cleared : 1 ≤ s .divisor .0 → EngineFacts F s cleared
-  engine-cleared h = record { slot = omega arith; elapsed = h; shift = shift-cleared F (s .bits) }
+  -- h is not 0 where any engine runs
+  engine-cleared : (e : Engine) → EngineFacts F s e → EngineFacts F s cleared
+  engine-cleared e t = record { slot = omega arith; elapsed = let p = t .elapsed in omega arith; shift = shift-cleared F (captureWidth s) }
 
   step-none : (e : Engine) → EngineFacts F s e → StepFacts F s (noWord e)
   step-none e t = record { engine = t; word = omega arith }
@@ -145,16 +146,16 @@ module _ (F : Type 0) (s : Settings) where
   engine-pick : (t : Bool) (x y : Engine) → (t ≡ true → EngineFacts F s x) → (t ≡ false → EngineFacts F s y) → EngineFacts F s (pick t x y)
   engine-pick t x y p q = pick-both (λ (e : Engine). EngineFacts F s e) t x y p q
 
-  step-capture : (bit : Bool) (e : Engine) → EngineFacts F s e → StepFacts F s (captureStep (s .bits) bit e)
+  step-capture : (bit : Bool) (e : Engine) → EngineFacts F s e → StepFacts F s (captureStep (captureWidth s) bit e)
   unfolding captureStep shiftedIn
   step-capture bit e t = record {
-    engine = record { slot = t .slot; elapsed = t .elapsed; shift = shift-captured F (s .bits) bit (e .shift) (t .shift) };
-    word = pick-both (λ (n : ℕ). n < 0x10000) (completes (s .bits) (e .shift)) _ _ (λ _. let l = mod-le (shiftedIn (e .shift .receiving) bit) (2 ^ s .bits) in omega arith) (λ _. omega arith);
+    engine = record { slot = t .slot; elapsed = t .elapsed; shift = shift-captured F (captureWidth s) bit (e .shift) (t .shift) };
+    word = pick-both (λ (n : ℕ). n < 0x10000) (completes (captureWidth s) (e .shift)) _ _ (λ _. let l = mod-le (shiftedIn (e .shift .receiving) bit) (2 ^ captureWidth s) in omega arith) (λ _. omega arith);
   }
 
   step-drive : (i width : ℕ) (e : Engine) → EngineFacts F s e → StepFacts F s (noWord (withShift e (driven width i (e .shift))))
   step-drive i width e t = record {
-    engine = record { slot = t .slot; elapsed = t .elapsed; shift = shift-driven F (s .bits) width i (e .shift) (t .shift) };
+    engine = record { slot = t .slot; elapsed = t .elapsed; shift = shift-driven F (captureWidth s) width i (e .shift) (t .shift) };
     word = omega arith;
   }
 
@@ -162,34 +163,34 @@ module _ (F : Type 0) (s : Settings) where
 
   step-act : (e : Engine) (waiting : Bool) (next : ℕ) (bit : Bool) (v : Event) → EngineFacts F s e → (F → next < 0x10000) → Lands (lastSlot s .0) v → StepFacts F s (act s e waiting next bit v)
   step-act e waiting next bit Begin t n l = record {
-    engine = record { slot = t .slot; elapsed = t .elapsed; shift = shift-loaded F (s .bits) next n };
+    engine = record { slot = t .slot; elapsed = t .elapsed; shift = shift-loaded F (captureWidth s) next n };
     word = omega arith;
   }
   step-act e waiting next bit BeginDrive t n l = record {
-    engine = record { slot = t .slot; elapsed = t .elapsed; shift = shift-started F (s .bits) (widthOf s) next n };
+    engine = record { slot = t .slot; elapsed = t .elapsed; shift = shift-started F (captureWidth s) (widthOf s) next n };
     word = omega arith;
   }
   step-act e waiting next bit (Drive i) t n l = step-drive i (widthOf s) e t
   step-act e waiting next bit First t n l = record {
-    engine = record { slot = t .slot; elapsed = t .elapsed; shift = shift-started F (s .bits) (widthOf s) (e .shift .sending) (t .shift .sending) };
+    engine = record { slot = t .slot; elapsed = t .elapsed; shift = shift-started F (captureWidth s) (widthOf s) (e .shift .sending) (t .shift .sending) };
     word = omega arith;
   }
   step-act e waiting next bit Capture t n l = step-capture bit e t
   step-act e waiting next bit (Chain k) t n l =
       step-pick waiting _ _
-      (record { engine = record { slot = l; elapsed = t .elapsed; shift = shift-started F (s .bits) (widthOf s) next n }; word = omega arith })
+      (record { engine = record { slot = l; elapsed = t .elapsed; shift = shift-started F (captureWidth s) (widthOf s) next n }; word = omega arith })
       (step-none e t)
   step-act e waiting next bit (JoinDrive i) t n l =
       step-pick waiting _ _
-      (record { engine = record { slot = omega arith; elapsed = t .elapsed; shift = shift-joined F (s .bits) (widthOf s) i next (e .shift) n (t .shift) }; word = omega arith })
+      (record { engine = record { slot = omega arith; elapsed = t .elapsed; shift = shift-joined F (captureWidth s) (widthOf s) i next (e .shift) n (t .shift) }; word = omega arith })
       (step-drive i (widthOf s) e t)
   step-act e waiting next bit JoinCapture t n l = step-pick (eqb (e .shift .captured) 0) _ _ (step-none e t) (step-capture bit e t)
   step-act e waiting next bit Quiet t n l = record {
-    engine = record { slot = t .slot; elapsed = t .elapsed; shift = shift-quieted F (s .bits) (e .shift) (t .shift) };
+    engine = record { slot = t .slot; elapsed = t .elapsed; shift = shift-quieted F (captureWidth s) (e .shift) (t .shift) };
     word = omega arith;
   }
   step-act e waiting next bit Release t n l = record {
-    engine = record { slot = t .slot; elapsed = t .elapsed; shift = shift-cleared F (s .bits) };
+    engine = record { slot = t .slot; elapsed = t .elapsed; shift = shift-cleared F (captureWidth s) };
     word = omega arith;
   }
   step-act e waiting next bit Pause t n l = step-none e t
@@ -207,7 +208,7 @@ module _ (F : Type 0) (s : Settings) where
       (λ g. record { slot = t .slot; elapsed = ltb-true _ _ g; shift = t .shift })
       (λ _. engine-pick (ltb (e .slot .0) (lastSlot s .0)) _ _
       (λ g. record { slot = let l = ltb-true (e .slot .0) (lastSlot s .0) g in omega arith; elapsed = let p = t .elapsed in omega arith; shift = t .shift })
-      (λ _. engine-cleared (let p = t .elapsed in omega arith))))
+      (λ _. engine-cleared e t)))
 
   -- The slave ------------------------------------------------------------------------------------------------------
 
@@ -215,14 +216,14 @@ module _ (F : Type 0) (s : Settings) where
   step-take : (e : Engine) (may : Bool) (next : ℕ) → EngineFacts F s e → (F → next < 0x10000) → StepFacts F s (slaveTake s e may next)
   step-take e may next t n =
       record {
-        engine = record { slot = t .slot; elapsed = t .elapsed; shift = shift-started F (s .bits) (s .bits) (pick may next 0) (λ f. pick-both (λ (x : ℕ). x < 0x10000) may _ _ (λ _. n f) (λ _. omega arith)) };
+        engine = record { slot = t .slot; elapsed = t .elapsed; shift = shift-started F (captureWidth s) (s .bits) (pick may next 0) (λ f. pick-both (λ (x : ℕ). x < 0x10000) may _ _ (λ _. n f) (λ _. omega arith)) };
         word = omega arith;
       }
 
   step-select : (e : Engine) (fell : Bool) (next : ℕ) → EngineFacts F s e → (F → next < 0x10000) → StepFacts F s (motorolaSelect s e fell next)
   unfolding motorolaSelect
   step-select e fell next t n =
-      let c : EngineFacts F s (selectedOf e) = record { slot = t .slot; elapsed = t .elapsed; shift = shift-cleared F (s .bits) } in
+      let c : EngineFacts F s (selectedOf e) = record { slot = t .slot; elapsed = t .elapsed; shift = shift-cleared F (captureWidth s) } in
       step-pick fell _ _
       (step-pick (s .phase) _ _ (step-none (selectedOf e) c) (step-take (selectedOf e) (s .enabled) next c n))
       (step-none e t)
@@ -243,7 +244,7 @@ module _ (F : Type 0) (s : Settings) where
   step-motorola : (e : Engine) (before seen : Pins) (next : ℕ) → EngineFacts F s e → (F → next < 0x10000) → StepFacts F s (motorolaSlave s e before seen next)
   unfolding motorolaSlave
   step-motorola e before seen next t n =
-      step-pick (seen .fss) _ _ (step-none cleared (engine-cleared (let p = t .elapsed in omega arith)))
+      step-pick (seen .fss) _ _ (step-none cleared (engine-cleared e t))
       (step-edges (motorolaSelect s e (before .fss) next) before seen next (step-select e (before .fss) next t n) n)
 
   step-falls : (e : Engine) (fss bit : Bool) → EngineFacts F s e → StepFacts F s (tiFalls s e fss bit)
@@ -251,8 +252,8 @@ module _ (F : Type 0) (s : Settings) where
   step-falls e fss bit t =
       let m : EngineFacts F s (withMark e (e .mark || fss)) = record { slot = t .slot; elapsed = t .elapsed; shift = t .shift } in
       step-pick (e .frame) _ _
-      (step-pick (fss && ltb (e .shift .captured + 1) (s .bits)) _ _
-      (record { engine = record { slot = t .slot; elapsed = t .elapsed; shift = shift-cleared F (s .bits) }; word = omega arith })
+      (step-pick (fss && ltb (e .shift .captured + 1) (captureWidth s)) _ _
+      (record { engine = record { slot = t .slot; elapsed = t .elapsed; shift = shift-cleared F (captureWidth s) }; word = omega arith })
       (step-capture bit (withMark e (e .mark || fss)) m))
       (step-none (withMark e (e .mark || fss)) m)
 
@@ -266,24 +267,68 @@ module _ (F : Type 0) (s : Settings) where
   step-ti : (e : Engine) (before seen : Pins) (next : ℕ) → EngineFacts F s e → (F → next < 0x10000) → StepFacts F s (tiSlave s e before seen next)
   unfolding tiSlave
   step-ti e before seen next t n =
-      step-pick (before .clk && not (seen .clk)) _ _ (step-falls e (seen .fss) (dataBit s (e .shift .level) (seen .rxd)) t)
-      (step-pick (not (before .clk) && seen .clk) _ _ (step-rises e next t n) (step-none e t))
+      step-pick (clockFalls before seen) _ _ (step-falls e (seen .fss) (dataBit s (e .shift .level) (seen .rxd)) t)
+      (step-pick (clockRises before seen) _ _ (step-rises e next t n) (step-none e t))
 
-  step-slave-on : (f : Format) (e : Engine) (before seen : Pins) (next : ℕ) → EngineFacts F s e → (F → next < 0x10000) → StepFacts F s (slaveOn f s e before seen next)
-  step-slave-on Motorola e before seen next t n = step-motorola e before seen next t n
-  step-slave-on Ti e before seen next t n = step-ti e before seen next t n
-  step-slave-on Microwire e before seen next t n = step-none cleared (engine-cleared (let p = t .elapsed in omega arith))
-  step-slave-on Reserved e before seen next t n = step-none cleared (engine-cleared (let p = t .elapsed in omega arith))
+  engine-ready : (e : Engine) → EngineFacts F s e → EngineFacts F s ready
+  engine-ready e t = let c = engine-cleared e t in record { slot = c .slot; elapsed = c .elapsed; shift = c .shift }
+
+  -- a Microwire slave's last slot, from the last data bit's rise on, is not beyond the format's
+  module _ (room : 17 + 2 * s .bits ≤ lastSlot s .0) where
+    slot-next : (n : ℕ) → dataOver s n ≡ false → n + 1 ≤ lastSlot s .0
+    slot-next n g = let l = leb-false (17 + 2 * s .bits) n g in omega arith
+
+    engine-data-rises : (e : Engine) → EngineFacts F s e → EngineFacts F s (dataRises s e)
+    unfolding dataRises
+    engine-data-rises e t =
+        engine-pick (eqb (e .slot .0 % 2) 0 && not (dataOver s (e .slot .0))) _ _
+        (λ g. record { slot = slot-next (e .slot .0) (not-elim _ (and-right (eqb (e .slot .0 % 2) 0) _ g)); elapsed = t .elapsed; shift = t .shift })
+        (λ _. t)
+
+    step-microwire-rises : (e : Engine) (next : ℕ) (bit : Bool) → EngineFacts F s e → (F → next < 0x10000) → StepFacts F s (microwireRises s e next bit)
+    unfolding microwireRises
+    step-microwire-rises e next bit t n =
+        step-pick (leb 17 (e .slot .0)) _ _ (step-none (dataRises s e) (engine-data-rises e t))
+        (step-pick (controlLeft s e) _ _
+        (step-capture bit (withFrame e true (e .shift)) (record { slot = t .slot; elapsed = t .elapsed; shift = t .shift }))
+        (step-take (withSlot e (slots 17)) (s .enabled) next (record { slot = omega arith; elapsed = t .elapsed; shift = t .shift }) n))
+
+    engine-microwire-falls : (e : Engine) → EngineFacts F s e → EngineFacts F s (microwireFalls s e)
+    unfolding microwireFalls
+    engine-microwire-falls e t =
+        engine-pick (dataOver s (e .slot .0)) _ _ (λ _. engine-ready e t)
+        (λ g. engine-pick (leb 17 (e .slot .0) && eqb (e .slot .0 % 2) 1) _ _
+        (λ _. record { slot = slot-next (e .slot .0) g; elapsed = t .elapsed; shift = shift-driven F (captureWidth s) (s .bits) (e .slot .0 / 2 - 8) (e .shift) (t .shift) })
+        (λ _. t))
+
+    step-microwire-edges : (e : Engine) (before seen : Pins) (next : ℕ) → EngineFacts F s e → (F → next < 0x10000) → StepFacts F s (microwireEdges s e before seen next)
+    unfolding microwireEdges
+    step-microwire-edges e before seen next t n =
+        step-pick (e .selected && clockRises before seen) _ _ (step-microwire-rises e next (dataBit s false (seen .rxd)) t n)
+        (step-pick (e .selected && clockFalls before seen) _ _ (step-none (microwireFalls s e) (engine-microwire-falls e t)) (step-none e t))
+
+    step-microwire : (e : Engine) (before seen : Pins) (next : ℕ) → EngineFacts F s e → (F → next < 0x10000) → StepFacts F s (microwireSlave s e before seen next)
+    unfolding microwireSlave
+    step-microwire e before seen next t n =
+        step-pick (seen .fss) _ _ (step-none cleared (engine-cleared e t))
+        (step-microwire-edges (pick (before .fss) ready e) before seen next (engine-pick (before .fss) _ _ (λ _. engine-ready e t) (λ _. t)) n)
+
+  step-slave-on : (f : Format) (e : Engine) (before seen : Pins) (next : ℕ) → s .format ≡ f → EngineFacts F s e → (F → next < 0x10000) → StepFacts F s (slaveOn f s e before seen next)
+  unfolding lastSlot
+  step-slave-on Motorola e before seen next k t n = step-motorola e before seen next t n
+  step-slave-on Ti e before seen next k t n = step-ti e before seen next t n
+  step-slave-on Microwire e before seen next k t n = step-microwire (rw k (omega arith)) e before seen next t n
+  step-slave-on Reserved e before seen next k t n = step-none cleared (engine-cleared e t)
 
   step-slave : (e : Engine) (before seen : Pins) (next : ℕ) → EngineFacts F s e → (F → next < 0x10000) → StepFacts F s (slaveStep s e before seen next)
   unfolding slaveStep
-  step-slave e before seen next t n = step-slave-on (s .format) e before seen next t n
+  step-slave e before seen next t n = step-slave-on (s .format) e before seen next refl t n
 
   end-on : (f : Format) (e : Engine) → EngineFacts F s e → EngineFacts F s (endedOn f e)
   end-on Motorola e t = record { slot = t .slot; elapsed = t .elapsed; shift = t .shift }
-  end-on Ti e t = record { slot = t .slot; elapsed = t .elapsed; shift = shift-cleared F (s .bits) }
-  end-on Microwire e t = record { slot = t .slot; elapsed = t .elapsed; shift = shift-cleared F (s .bits) }
-  end-on Reserved e t = record { slot = t .slot; elapsed = t .elapsed; shift = shift-cleared F (s .bits) }
+  end-on Ti e t = record { slot = t .slot; elapsed = t .elapsed; shift = shift-cleared F (captureWidth s) }
+  end-on Microwire e t = t
+  end-on Reserved e t = record { slot = t .slot; elapsed = t .elapsed; shift = shift-cleared F (captureWidth s) }
 
   end-slave : (e : Engine) → EngineFacts F s e → EngineFacts F s (slaveEnd s e)
   unfolding slaveEnd
@@ -431,11 +476,11 @@ unfolding readDevice
 fits-read d o h = fits-both _ (file.fits-read (d .registers) o (fits-registers d h)) (engine-fit d h)
 
 -- A write that leaves SSE set leaves all that a running engine's soundness hangs on.
-written-sound : (m n : Model) (e : Engine) → ControlFacts (n .control) (enabledOf (n .control)) → SameDivider m n → enabledOf (m .control) ≡ true → enabledOf (n .control) ≡ true
+written-sound : (m n : Model) (e : Engine) → ControlFacts (n .control) (enabledOf (n .control)) → SameBounds m n → enabledOf (m .control) ≡ true → enabledOf (n .control) ≡ true
     → engineSound (settingsOf (m .control)) e ≡ true → engineSound (settingsOf (n .control)) e ≡ true
 unfolding engineSound runningSound settingsOf divisorOf lastSlot
 written-sound m n e t same k l h =
-    pick-yes _ _ l ∙ rw (same .cr0, same .cpsr) (sym (pick-yes _ _ k) ∙ h)
+    pick-yes _ _ l ∙ rw (same .cr0, same .cpsr, same .role) (sym (pick-yes _ _ k) ∙ h)
 
 pub sound-write : (d : DeviceModel) (o v : ℕ) → soundDevice d ≡ true → soundDevice (writeDevice d o v) ≡ true
 unfolding writeDevice engineAfter settingsOf
@@ -457,7 +502,7 @@ sound-write d o v h =
 
     go : (x : Bool) → on ≡ x → ControlFacts (n .control) (enabledOf (n .control)) → (on && not (enabledOf (n .control))) ≡ false → engineSound (settingsOf (n .control)) (d .engine) ≡ true
     go true e t k =
-        written-sound (d .registers) n (d .engine) t (divider-write (d .registers) on o v e) e
+        written-sound (d .registers) n (d .engine) t (bounds-write (d .registers) on o v e) e
         (not-false _ (and-off on _ k e)) (sound-engine d h)
     go false e t k = stopped-sound (n .control) (d .engine) t (stopped d h e)
 
@@ -494,7 +539,7 @@ step-enabled d pins h k =
     (step-pick F s (s .slave) _ _
     (step-slave F s (d .engine) (d .pins .oldest) (d .pins .middle) (nextWord (d .registers)) t n)
     (step-master F s (d .engine) (waitingOf (d .registers)) (nextWord (d .registers)) (pins .rxd) t n))
-    (step-none F s cleared (engine-cleared F s (let p = t .elapsed in omega arith)))
+    (step-none F s cleared (engine-cleared F s (d .engine) t))
 
 cycle-enabled : (d : DeviceModel) (pins : Pins) → soundDevice d ≡ true → enabledOf (d .registers .control) ≡ true → EngineFacts (deviceFits d ≡ true) (settingsOf (d .registers .control)) (cycleOf d pins .engine)
 unfolding cycleOf endOf
@@ -522,11 +567,17 @@ last-most Ti b h = omega arith
 last-most Microwire b h = omega arith
 last-most Reserved b h = omega arith
 
+capture-most : (f : Format) (slave : Bool) (b : ℕ) → b ≤ 16 → captureOn f slave b ≤ 16
+capture-most Motorola slave b h = h
+capture-most Ti slave b h = h
+capture-most Microwire slave b h = pick-both (λ (n : ℕ). n ≤ 16) slave 8 b (λ _. omega arith) (λ _. h)
+capture-most Reserved slave b h = h
+
 running-fit : (F : Type 0) (c : Control) (e : Engine) → c .cpsr < 0x100 → EngineFacts F (settingsOf c) e → F → EngineFit e
 unfolding settingsOf lastSlot
 running-fit F c e p t f =
     let l = last-most (formatOf (c .cr0)) (bitsOf (c .cr0)) (bits-most (c .cr0)) in
-    let n = bits-most (c .cr0) in
+    let n = capture-most (formatOf (c .cr0)) (bitAt (c .cr1) 2) (bitsOf (c .cr0)) (bits-most (c .cr0)) in
     let g = divisor-most c p in
     record {
       slot = let a = t .slot in omega arith;

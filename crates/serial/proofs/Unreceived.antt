@@ -13,7 +13,7 @@ use Rattle.registers.specs.Transfer.{rest, waitingOf, nextWord}
 use Rattle.registers.specs.declared.Control.{Control}
 use Rattle.registers.specs.declared.settings.Settings.{Settings}
 use Rattle.frames.specs.Engine.{cleared, driven, capturedOf, captureStep, noWord, withShift, withSelected}
-use Rattle.frames.specs.Slots.{eventOf, lastSlot}
+use Rattle.frames.specs.Slots.{eventOf, lastSlot, captureWidth}
 use Rattle.frames.specs.Lines.{masterLines, linesOf, masterTxd}
 use Rattle.frames.specs.Master.{joinedShift, act, resting, acting, dataBit, masterStep, ticked, masterEnd}
 use Rattle.serial.specs.Cycle.{DeviceModel, stepOf, endOf, deviceStep, cycleOf}
@@ -52,10 +52,10 @@ act-unreceived s e waiting next bit bit′ Begin = refl
 act-unreceived s e waiting next bit bit′ BeginDrive = refl
 act-unreceived s e waiting next bit bit′ (Drive i) = refl
 act-unreceived s e waiting next bit bit′ First = refl
-act-unreceived s e waiting next bit bit′ Capture = capture-unreceived (s .bits) bit bit′ e
+act-unreceived s e waiting next bit bit′ Capture = capture-unreceived (captureWidth s) bit bit′ e
 act-unreceived s e waiting next bit bit′ (Chain n) = pick-alike stepWithoutReceived waiting _ _ _ _ refl refl
 act-unreceived s e waiting next bit bit′ (JoinDrive i) = pick-alike stepWithoutReceived waiting _ _ _ _ refl refl
-act-unreceived s e waiting next bit bit′ JoinCapture = pick-alike stepWithoutReceived (eqb (e .shift .captured) 0) _ _ _ _ refl (capture-unreceived (s .bits) bit bit′ e)
+act-unreceived s e waiting next bit bit′ JoinCapture = pick-alike stepWithoutReceived (eqb (e .shift .captured) 0) _ _ _ _ refl (capture-unreceived (captureWidth s) bit bit′ e)
 act-unreceived s e waiting next bit bit′ Quiet = refl
 act-unreceived s e waiting next bit bit′ Release = refl
 act-unreceived s e waiting next bit bit′ Pause = refl

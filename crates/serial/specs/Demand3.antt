@@ -74,6 +74,13 @@ enables d p = write d 0x04 (controlOf d p .cr1 + 2)
 
 -- The start ------------------------------------------------------------------------------------------------------------
 
+-- What demand 3 asks of polarity and of phase: the same in both devices; nothing of a Microwire pair.
+abbrev pub Agree : Format → Bool → Bool → Type 0
+Agree Motorola x y = x ≡ y
+Agree Ti x y = x ≡ y
+Agree Microwire x y = Unit {0}
+Agree Reserved x y = x ≡ y
+
 -- Any two sound devices, set up and off.
 pub record Start (p : PairModel) : Type 0 where
   pub sound-master : soundDevice (p .first) ≡ true
@@ -82,12 +89,12 @@ pub record Start (p : PairModel) : Type 0 where
   pub permitted-slave : permittedOf (controlOf slave p .cr0) ≡ true
   pub divided-master : controlOf master p .cpsr ≡ 0 → ⊥
   pub divided-slave : controlOf slave p .cpsr ≡ 0 → ⊥
-  -- both Motorola or both TI, same size, polarity and phase
-  pub serial : (settingsOf (controlOf master p) .format ≡ Motorola) ⊎ (settingsOf (controlOf master p) .format ≡ Ti)
+  -- both Motorola, both TI or both Microwire, same size; in Motorola and TI also same polarity and phase
+  pub serial : (settingsOf (controlOf master p) .format ≡ Motorola) ⊎ ((settingsOf (controlOf master p) .format ≡ Ti) ⊎ (settingsOf (controlOf master p) .format ≡ Microwire))
   pub format : settingsOf (controlOf slave p) .format ≡ settingsOf (controlOf master p) .format
   pub size : settingsOf (controlOf slave p) .bits ≡ settingsOf (controlOf master p) .bits
-  pub polarity : settingsOf (controlOf slave p) .polarity ≡ settingsOf (controlOf master p) .polarity
-  pub phase : settingsOf (controlOf slave p) .phase ≡ settingsOf (controlOf master p) .phase
+  pub polarity : Agree (settingsOf (controlOf master p) .format) (settingsOf (controlOf slave p) .polarity) (settingsOf (controlOf master p) .polarity)
+  pub phase : Agree (settingsOf (controlOf master p) .format) (settingsOf (controlOf slave p) .phase) (settingsOf (controlOf master p) .phase)
   -- the master's bit at least 12 cycles long
   pub divisor : 6 ≤ settingsOf (controlOf master p) .divisor .0
   pub is-master : settingsOf (controlOf master p) .slave ≡ false

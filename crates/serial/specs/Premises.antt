@@ -17,23 +17,34 @@ use Rattle.serial.specs.Demand3.Step.{cycle, read}
 use Rattle.frames.specs.declared.lines.Pins.{Pins}
 use Rattle.serial.specs.Recordings.{CR0, CR1, DR, SR, CPSR}
 
--- After reset, CR0 for Motorola SPH 0 and b = 4, CPSR and CR1 are written, then two words to send.
-abbrev pub prepared : ℕ → ℕ → ℕ → ℕ → DeviceModel
-prepared cpsr cr1 v w = writeDevice (writeDevice (writeDevice (writeDevice (writeDevice resetDevice CR0 0x03) CPSR cpsr) CR1 cr1) DR v) DR w
+-- After reset CR0, CPSR and CR1 are written, then two words to send.
+abbrev pub prepared : ℕ → ℕ → ℕ → ℕ → ℕ → DeviceModel
+prepared cr0 cpsr cr1 v w = writeDevice (writeDevice (writeDevice (writeDevice (writeDevice resetDevice CR0 cr0) CPSR cpsr) CR1 cr1) DR v) DR w
 
 -- A master, its CPSR 12: h = 6.
-abbrev pub preparedMaster : ℕ → ℕ → DeviceModel
-preparedMaster v w = prepared 12 0x0 v w
+abbrev pub preparedMaster : ℕ → ℕ → ℕ → DeviceModel
+preparedMaster cr0 v w = prepared cr0 12 0x0 v w
 
 -- A slave: MS.
-abbrev pub preparedSlave : ℕ → ℕ → DeviceModel
-preparedSlave v w = prepared 2 0x4 v w
+abbrev pub preparedSlave : ℕ → ℕ → ℕ → DeviceModel
+preparedSlave cr0 v w = prepared cr0 2 0x4 v w
+
+-- CR0 for Motorola, SPH 0, SPO 0, b = 4.
+abbrev pub motorola : ℕ
+motorola = 0x03
+
+-- CR0 for Microwire, b = 4, with SPH 0, SPO 0 and with SPH 1, SPO 1.
+abbrev pub microwire : ℕ
+microwire = 0x23
+
+abbrev pub microwireUnlike : ℕ
+microwireUnlike = 0xE3
 
 -- The first part -------------------------------------------------------------------------------------------------------
 
--- A master with the words A, 5 and a slave with 3, C.
-abbrev pub preparedPair : PairModel
-preparedPair = record { first = preparedMaster 0xA 0x5; second = preparedSlave 0x3 0xC }
+-- A master with the words A, 5 and a slave with 3, C; CR0 of both.
+abbrev pub preparedPair : ℕ → ℕ → PairModel
+preparedPair c d = record { first = preparedMaster c 0xA 0x5; second = preparedSlave d 0x3 0xC }
 
 -- Four cycles before the slave's enabling.
 abbrev pub before : List Step
@@ -44,17 +55,17 @@ abbrev pub between : List Step
 between = read master SR ∷ cycle ∷ []
 
 -- The premises of the first part, and the loads at the master's enabling.
-pub record PairPremises : Type 0 where
-  pub start : Start preparedPair
+pub record PairPremises (c d : ℕ) : Type 0 where
+  pub start : Start (preparedPair c d)
   pub four : 4 ≤ cyclesIn before
-  pub stays-before : Stays before preparedPair
-  pub stays-between : Stays between (slaveEnabled before preparedPair)
-  pub load-master : load master (masterEnabled before between preparedPair) ≡ 0xA ∷ 0x5 ∷ []
-  pub load-slave : load slave (masterEnabled before between preparedPair) ≡ 0x3 ∷ 0xC ∷ []
+  pub stays-before : Stays before (preparedPair c d)
+  pub stays-between : Stays between (slaveEnabled before (preparedPair c d))
+  pub load-master : load master (masterEnabled before between (preparedPair c d)) ≡ 0xA ∷ 0x5 ∷ []
+  pub load-slave : load slave (masterEnabled before between (preparedPair c d)) ≡ 0x3 ∷ 0xC ∷ []
 
 -- The last sentence ----------------------------------------------------------------------------------------------------
 
--- The settings of that master, enabled: Motorola, SPH 0, SPO 0, b = 4, h = 6, MS, SOD and LBM 0, SSE 1.
+-- The settings of a master with that CR0, enabled: Motorola, SPH 0, SPO 0, b = 4, h = 6, MS, SOD and LBM 0, SSE 1.
 abbrev pub enabledMaster : Settings
 enabledMaster = settingsBy Motorola false false 4 (divisor 6) false false false true
 
@@ -64,7 +75,7 @@ lowInputs = replicate 144 lowPins
 
 -- The premises of the last sentence on the loads A, 5 and 3, C: CR1 is written with SSE.
 pub record LastPremises : Type 0 where
-  pub one : Enabling enabledMaster (preparedMaster 0xA 0x5) CR1 0x2
-  pub other : Enabling enabledMaster (preparedMaster 0x3 0xC) CR1 0x2
-  pub whole-one : WholeLoad enabledMaster (writeDevice (preparedMaster 0xA 0x5) CR1 0x2) lowInputs
-  pub whole-other : WholeLoad enabledMaster (writeDevice (preparedMaster 0x3 0xC) CR1 0x2) lowInputs
+  pub one : Enabling enabledMaster (preparedMaster motorola 0xA 0x5) CR1 0x2
+  pub other : Enabling enabledMaster (preparedMaster motorola 0x3 0xC) CR1 0x2
+  pub whole-one : WholeLoad enabledMaster (writeDevice (preparedMaster motorola 0xA 0x5) CR1 0x2) lowInputs
+  pub whole-other : WholeLoad enabledMaster (writeDevice (preparedMaster motorola 0x3 0xC) CR1 0x2) lowInputs

@@ -16,7 +16,7 @@ stoppedSound e =
     ((not (e .frame) && not (e .selected)) && not (e .mark))
     && ((eqb (e .slot .0) 0 && eqb (e .elapsed .0) 0) && eqb (e .shift .captured) 0)
 
--- Where the engine is active: slot number at most the format's last, elapsed cycles of the slot below h, captured bits at most the width of a received word, b.
+-- Where the engine is active: slot number at most the format's last, elapsed cycles of the slot below h, captured bits at most the width of a received word: b, a Microwire slave's 8.
 unfoldable pub runningSound : Settings → Engine → Bool
 runningSound s e = (leb (e .slot .0) (lastSlot s .0) && ltb (e .elapsed .0) (s .divisor .0)) && leb (e .shift .captured) (captureWidth s)
 

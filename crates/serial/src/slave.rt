@@ -1,11 +1,12 @@
 // What a slave does in a cycle: it sees each pin as it stood two cycles earlier, and an edge against the cycle before.
 ghost use mathlib.Core.Path.{_≡_};
-ghost use Rattle.serial.specs.Slave.{offered, slaveTake, slaveDrive, selectedOf, motorolaSelect, captureEdge, driveEdge, motorolaClock, afterTaking, motorolaEdges, motorolaSlave, withMark, tiFalls, tiRises, tiSlave, slaveStep, endedOn, slaveEnd};
+ghost use Rattle.serial.specs.Slave.{offered, slaveTake, slaveDrive, selectedOf, motorolaSelect, captureEdge, driveEdge, motorolaClock, afterTaking, motorolaEdges, motorolaSlave, withMark, tiFalls, tiRises, tiSlave, ready, microwireSelect, dataOver, dataRises, microwireRises, microwireFalls, microwireEdges, microwireSlave, slaveStep, endedOn, slaveEnd};
 use frames::engine::Engine;
 use frames::engine::Step;
 use frames::lines::Pins;
 use registers::settings::Format;
 use registers::settings::Settings;
+use registers::time::Slots;
 
 // The word that a slave sends.
 fn offered(may: bool, next: u16) -> u16
@@ -29,7 +30,7 @@ fn slave_take(s: Settings, e: Engine, may: bool, next: u16) -> Step
     }
 }
 
-// With c bits captured it drives bit c.
+// Motorola and TI: with c bits captured it drives bit c.
 fn slave_drive(s: Settings, e: Engine) -> Step
     ensures { λ r. ⌜ r ≡ slaveDrive s e ⌝ }
 {
@@ -204,6 +205,106 @@ fn ti_slave(s: Settings, e: Engine, before: Pins, seen: Pins, next: u16) -> Step
     frames::engine::no_word(e)
 }
 
+fn ready() -> Engine
+    ensures { λ r. ⌜ r ≡ ready ⌝ }
+{
+    let mut next = frames::engine::cleared();
+    next.selected = true;
+    next
+}
+
+// A FSS fall selects.
+fn microwire_select(e: Engine, fell: bool) -> Engine
+    ensures { λ r. ⌜ r ≡ microwireSelect e fell ⌝ }
+{
+    if fell { ready() } else { e }
+}
+
+// From the last data bit's rise on.
+fn data_over(s: Settings, n: u16) -> bool
+    ensures { λ r. ⌜ r ≡ dataOver s n ⌝ }
+{
+    17 + 2 * (s.bits as u16) <= n
+}
+
+// A rise in the middle of a data bit; the last one ends the frame.
+fn data_rises(s: Settings, e: Engine) -> Engine
+    ensures { λ r. ⌜ r ≡ dataRises s e ⌝ }
+{
+    let n = e.slot.0;
+    let over = data_over(s, n);
+    let rises = (n % 2 == 0) & !over;
+    if rises {
+        let next = n + 1;
+        let last = data_over(s, next);
+        let later = frames::engine::with_slot(e, Slots(next));
+        return frames::engine::with_frame(later, e.frame & !last, e.shift);
+    }
+    e
+}
+
+// Eight control bits, then the rise that takes the word, then those of the data bits.
+fn microwire_rises(s: Settings, e: Engine, next: u16, bit: bool) -> Step
+    ensures { λ r. ⌜ r ≡ microwireRises s e next bit ⌝ }
+{
+    let data = 17 <= e.slot.0;
+    let width = frames::slots::capture_width(s);
+    let control = e.shift.captured < width;
+    if data {
+        return frames::engine::no_word(data_rises(s, e));
+    }
+    if control {
+        let framed = frames::engine::with_frame(e, true, e.shift);
+        return frames::engine::capture_step(width, bit, framed);
+    }
+    slave_take(s, frames::engine::with_slot(e, Slots(17)), s.enabled, next)
+}
+
+// A fall drives the next data bit, or ends the last one.
+fn microwire_falls(s: Settings, e: Engine) -> Engine
+    ensures { λ r. ⌜ r ≡ microwireFalls s e ⌝ }
+{
+    let n = e.slot.0;
+    let over = data_over(s, n);
+    let drives = (17 <= n) & (n % 2 == 1);
+    if over {
+        return ready();
+    }
+    if drives {
+        let later = frames::engine::with_slot(e, Slots(n + 1));
+        let shift = frames::engine::driven(s.bits as u16, n / 2 - 8, e.shift);
+        return frames::engine::with_shift(later, shift);
+    }
+    e
+}
+
+// The clock counts while selected.
+fn microwire_edges(s: Settings, e: Engine, before: Pins, seen: Pins, next: u16) -> Step
+    ensures { λ r. ⌜ r ≡ microwireEdges s e before seen next ⌝ }
+{
+    let rises = e.selected & (!before.clk & seen.clk);
+    let falls = e.selected & (before.clk & !seen.clk);
+    if rises {
+        let bit = frames::master::data_bit(s, false, seen.rxd);
+        return microwire_rises(s, e, next, bit);
+    }
+    if falls {
+        return frames::engine::no_word(microwire_falls(s, e));
+    }
+    frames::engine::no_word(e)
+}
+
+// FSS HIGH deselects and drops a part frame; FSS comes before CLK.
+fn microwire_slave(s: Settings, e: Engine, before: Pins, seen: Pins, next: u16) -> Step
+    ensures { λ r. ⌜ r ≡ microwireSlave s e before seen next ⌝ }
+{
+    let high = seen.fss;
+    if high {
+        return frames::engine::no_word(frames::engine::cleared());
+    }
+    microwire_edges(s, microwire_select(e, before.fss), before, seen, next)
+}
+
 // The engine after the cycle's edges, as its lines show it.
 pub fn slave_step(s: Settings, e: Engine, before: Pins, seen: Pins, next: u16) -> Step
     ensures { λ r. ⌜ r ≡ slaveStep s e before seen next ⌝ }
@@ -212,7 +313,7 @@ pub fn slave_step(s: Settings, e: Engine, before: Pins, seen: Pins, next: u16) -
     match f {
         Format::Motorola => motorola_slave(s, e, before, seen, next),
         Format::Ti => ti_slave(s, e, before, seen, next),
-        Format::Microwire => frames::engine::no_word(frames::engine::cleared()),
+        Format::Microwire => microwire_slave(s, e, before, seen, next),
         Format::Reserved => frames::engine::no_word(frames::engine::cleared()),
     }
 }
@@ -223,12 +324,12 @@ fn ended_on(f: Format, e: Engine) -> Engine
     match f {
         Format::Motorola => frames::engine::with_frame(e, false, e.shift),
         Format::Ti => frames::engine::with_frame(e, false, frames::engine::clear_shift()),
-        Format::Microwire => frames::engine::with_frame(e, false, frames::engine::clear_shift()),
+        Format::Microwire => e,
         Format::Reserved => frames::engine::with_frame(e, false, frames::engine::clear_shift()),
     }
 }
 
-// The end of a slave's cycle: with the last capture the frame is over.
+// The end of a slave's cycle: with the last capture a Motorola or TI frame is over.
 pub fn slave_end(s: Settings, e: Engine) -> Engine
     ensures { λ r. ⌜ r ≡ slaveEnd s e ⌝ }
 {

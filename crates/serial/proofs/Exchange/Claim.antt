@@ -27,7 +27,7 @@ use Rattle.serial.proofs.Accesses.{engine-enabling}
 use Rattle.serial.specs.Pair.{wire, PairModel, pairCycle, pairRun}
 use Rattle.serial.proofs.Trace.{iterate}
 use Rattle.frames.specs.Bits.{cut}
-use Rattle.frames.specs.Slots.{widthOf}
+use Rattle.frames.specs.Slots.{widthOf, captureWidth}
 use Rattle.serial.proofs.Drawing.Recorded.{Fresh}
 use Rattle.serial.proofs.Drawing.Enabled.{fresh-sound}
 use Rattle.serial.proofs.Drawing.Free.{busyCycles, busy-bound}
@@ -42,7 +42,7 @@ use Rattle.serial.proofs.Exchange.Finish.{answers, loadCycles, has-rece
 use Rattle.serial.proofs.Exchange.Project.{coreOf, rxOf, Paired, commutes}
 use Rattle.serial.proofs.Exchange.Lead.{Lead, lead-steps, lead-write₁, lead-write₂}
 use Rattle.serial.proofs.Exchange.Enable.{switchedOn, settings-on, control-on}
-use Rattle.serial.specs.Demand3.{Step, plays, cyclesIn, controlOf, Stays, Start, completed, received, load, held, busyFor, Received, Exchanged, slaveEnabled, masterEnabled, Demand3}
+use Rattle.serial.specs.Demand3.{Step, plays, cyclesIn, controlOf, Stays, Agree, Start, completed, received, load, held, busyFor, Received, Exchanged, slaveEnabled, masterEnabled, Demand3}
 use Rattle.serial.specs.Demand3.Which.{master, slave}
 use Rattle.frames.specs.declared.engine.Engine.{Engine}
 use Rattle.frames.specs.declared.lines.Lines.{Lines}
@@ -56,6 +56,10 @@ paired-next g P =
     record {
       wiring = P .wiring;
       master = ap settingsOf (control-cycle (g .first) (wire (g .second .lines))) ∙ P .master;
+      its-phase = P .its-phase;
+      its-polarity = P .its-polarity;
+      phases = P .phases;
+      polarities = P .polarities;
       slave = ap settingsOf (control-cycle (g .second) (wire (g .first .lines))) ∙ P .slave;
     }
 
@@ -135,7 +139,7 @@ module _ (f : Format) (phase p : Bool) (b h k : ℕ) (o : Bool) (c₁ c₂ : Con
   master-gets : (j : ℕ) → Received (given f phase p b h false o) (until + j) master g
   master-gets j =
       let r = ap (λ (c : Pair). c .m .rx) (run-of (until + j)) ∙ has-received (P .wiring) slow (load master g) q₁ (load slave g) q₂ (until + j) (in-time j) held-small₁ held-small₂ .0 in
-      let d = ap (map (cut b)) (answers-due (load master g) (load slave g)) in
+      let d = ap (map (cut (captureWidth (plain f phase b h false)))) (answers-due (load master g) (load slave g)) in
       record {
         words = ap (λ (x : Receiver). x .log) r ∙ d;
         queue = ap (λ (x : Receiver). x .held) r ∙ ap (λ (x : List ℕ). take 8 (held master g ++ x)) d;
@@ -186,13 +190,14 @@ unfolding writeDevice
 control-written d o v = refl
 
 -- a slave that is on, idle, and sees the master's idle lines
-slave-stays-idle : {f : Format} {phase : Bool} {b h : ℕ} → Wiring f phase b h → (p : Bool) (k : ℕ) (d : DeviceModel) (x : Pins) → settingsOf (d .registers .control) ≡ given f phase p b k true false → d .engine ≡ cleared
+slave-stays-idle : {f : Format} {phase : Bool} {b h : ℕ} → Wiring f phase b h → (phase′ p p′ : Bool) (k : ℕ) → Agree f phase′ phase → Agree f p′ p → (d : DeviceModel) (x : Pins)
+    → settingsOf (d .registers .control) ≡ given f phase′ p′ b k true false → d .engine ≡ cleared
     → d .pins .oldest ≡ wire (idleOn f p) → d .pins .middle ≡ wire (idleOn f p) → deviceStep d x ≡ noWord cleared
 unfolding deviceStep stepOf
-slave-stays-idle {f = f} {phase = phase} {b = b} W p k d x s e u v =
+slave-stays-idle {f = f} {b = b} W phase′ p p′ k a a′ d x s e u v =
     ap₂ (λ (s : Settings) (e : Engine). stepOf s e (d .pins) x (waitingOf (d .registers)) (nextWord (d .registers))) s e
-    ∙ ap₂ (λ (u v : Pins). slaveStep (given f phase p b k true false) cleared u v (nextWord (d .registers))) u v
-    ∙ stays-idle-given W p k (nextWord (d .registers))
+    ∙ ap₂ (λ (u v : Pins). slaveStep (given f phase′ p′ b k true false) cleared u v (nextWord (d .registers))) u v
+    ∙ stays-idle-given W phase′ p p′ k (nextWord (d .registers)) a a′
 
 -- the control registers after a device's enabling
 control-after : (d : DeviceModel) (c : Control) → d .registers .control ≡ c → c .cr1 ≤ 15 → enabledOf c ≡ false → permittedOf (c .cr0) ≡ true → (c .cpsr ≡ 0 → ⊥)
@@ -212,8 +217,8 @@ module _ (p : PairModel) (st : Start p) where
   abbrev s₁ : Settings
   s₁ = settingsOf (controlOf master p)
 
-  abbrev k₂ : ℕ
-  k₂ = settingsOf (controlOf slave p) .divisor .0
+  abbrev s₂ : Settings
+  s₂ = settingsOf (controlOf slave p)
 
   wired : Wiring (s₁ .format) (s₁ .phase) (s₁ .bits) (s₁ .divisor .0)
   unfolding settingsOf
@@ -236,9 +241,9 @@ module _ (p : PairModel) (st : Start p) where
   on₁ = settings-on (controlOf master p) small₁ off₁
       ∙ (λ t. settingsBy (s₁ .format) (s₁ .phase) (s₁ .polarity) (s₁ .bits) (s₁ .divisor) (st .is-master t) (s₁ .sod) (st .straight-master t) true)
 
-  on₂ : settingsOf (switchedOn (controlOf slave p)) ≡ given (s₁ .format) (s₁ .phase) (s₁ .polarity) (s₁ .bits) k₂ true false
+  on₂ : settingsOf (switchedOn (controlOf slave p)) ≡ given (s₁ .format) (s₂ .phase) (s₂ .polarity) (s₁ .bits) (s₂ .divisor .0) true false
   on₂ = settings-on (controlOf slave p) small₂ off₂
-      ∙ (λ t. settingsBy (st .format t) (st .phase t) (st .polarity t) (st .size t) (divisor k₂) (st .is-slave t) (st .output t) (st .straight-slave t) true)
+      ∙ (λ t. settingsBy (st .format t) (s₂ .phase) (s₂ .polarity) (st .size t) (s₂ .divisor) (st .is-slave t) (st .output t) (st .straight-slave t) true)
 
   abbrev i : Lines
   i = idleOn (settingsOf (controlOf master p) .format) (settingsOf (controlOf master p) .polarity)
@@ -279,7 +284,7 @@ module _ (p : PairModel) (st : Start p) where
   lead-mid : (pre mid : List Step) → 4 ≤ cyclesIn pre → Stays pre p → Stays mid (slaveEnabled pre p) → Lead i hidden (controlOf master p) (switchedOn (controlOf slave p)) (cyclesIn pre + cyclesIn mid) (plays mid (slaveEnabled pre p))
   lead-mid pre mid four z z′ =
       lead-steps idle₁ idle-on₂ off₁ 4
-      (λ n g l c. slave-stays-idle wired (s₁ .polarity) k₂ (g .second) (wire (g .first .lines)) (ap settingsOf (c .second .control) ∙ on₂) (c .second .engine (omega arith)) (c .oldest l) (c .middle (omega arith)))
+      (λ n g l c. slave-stays-idle wired (s₂ .phase) (s₁ .polarity) (s₂ .polarity) (s₂ .divisor .0) (st .phase) (st .polarity) (g .second) (wire (g .first .lines)) (ap settingsOf (c .second .control) ∙ on₂) (c .second .engine (omega arith)) (c .oldest l) (c .middle (omega arith)))
       mid (cyclesIn pre) (cyclesIn pre + cyclesIn mid) (slaveEnabled pre p) refl four z′ (lead-slave pre z)
 
   -- the master on
@@ -298,5 +303,13 @@ demand3 p pre mid st four z z′ =
     let l = lead-master p st pre mid four z z′ in
     let s = settingsOf (controlOf master p) in
     exchanged-at (s .format) (s .phase) (s .polarity) (s .bits) (s .divisor .0) (settingsOf (controlOf slave p) .divisor .0) (s .sod) _ _ _ (masterEnabled pre mid p)
-    (record { wiring = wired p st; master = ap settingsOf (l .first .control) ∙ on₁ p st; slave = ap settingsOf (l .second .control) ∙ on₂ p st })
+    (record {
+      wiring = wired p st;
+      master = ap settingsOf (l .first .control) ∙ on₁ p st;
+      its-phase = settingsOf (controlOf slave p) .phase;
+      its-polarity = settingsOf (controlOf slave p) .polarity;
+      phases = st .phase;
+      polarities = st .polarity;
+      slave = ap settingsOf (l .second .control) ∙ on₂ p st;
+    })
     l (omega arith) (st .divisor)

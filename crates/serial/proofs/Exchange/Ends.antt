@@ -1,10 +1,9 @@
 -- Motorola frames: their beginning and their end, as far as both phases share them.
-use Prim.Native.Nat.{ℕ, _+_, _-_, _*_, _≤_, _<_}
-use mathlib.Core.Path.{_≡_, refl, sym, ap, _∙_, subst}
-use mathlib.Core.Bool.{Bool, true, false, _&&_}
+use Prim.Native.Nat.{ℕ, _+_, _-_, _*_, _≤_}
+use mathlib.Core.Path.{_≡_, refl, ap, _∙_}
+use mathlib.Core.Bool.{Bool, false}
 use mathlib.Core.List.{List, [], _∷_}
 use native.Mathlib.Omega.{arith}
-use borrow.Author.Tests.{ne-eqb, lt-ltb, le-ltb}
 use Rattle.registers.specs.Choose.{pick}
 use Rattle.registers.specs.Time.{slots}
 use Rattle.registers.specs.Transfer.{rest}
@@ -17,17 +16,18 @@ use Rattle.frames.specs.Master.{act, masterStep, acting, resting, dataBit}
 use Rattle.serial.specs.Slave.{slaveStep, slaveEnd, motorolaSlave}
 use Rattle.serial.specs.Pair.{wire}
 use Rattle.serial.proofs.Cycles.{waits, waits-cons}
-use Rattle.serial.proofs.Trace.{none, more, iterate, trace-ever}
+use Rattle.serial.proofs.Trace.{iterate}
 use Rattle.serial.proofs.Exchange.Core.{Receiver, Side, push, moved, acted, slaveSide, coreCycle}
-use Rattle.serial.proofs.WithinSlot.{Live, nextSlot, sending, shifted, parked}
-use Rattle.serial.proofs.Exchange.Settle.{Two, rested, slots-trace}
+use Rattle.serial.proofs.WithinSlot.{sending, shifted}
+use Rattle.serial.proofs.Exchange.Settle.{Two, rested}
 use Rattle.serial.proofs.Exchange.Quiet.{lawful-motorola}
 use Rattle.serial.proofs.Events.{motorola-release, levels-first}
-use Rattle.serial.proofs.Exchange.Moves.{Queues, inFrame, hidden, acted-by, received, slave-by, Slot, slot-of}
-use Rattle.serial.proofs.Exchange.Wiring.{front, holding, Holds, starts, StaysIdle, idle-stays}
+use Rattle.serial.proofs.Exchange.Moves.{Queues, inFrame, hidden, received, Slot}
+use Rattle.serial.proofs.Exchange.Wiring.{front, holding, Holds, starts, StaysIdle}
+use Rattle.serial.proofs.Exchange.Release.{releasedAt, GoesIdle}
+use Rattle.serial.proofs.Exchange.Release as release
 use Rattle.serial.proofs.Exchange.Motorola.{sm, ss, filledAt, lines-first, calm, ended}
 use Rattle.frames.specs.declared.engine.Step.{Step}
-use Rattle.frames.specs.declared.slots.Event.the-variants.{Release}
 
 -- between frames
 abbrev pub idle : Queues → Two
@@ -46,38 +46,23 @@ begin-acts phase b h w ws q d =
     ap (λ (t : Bool). moved (pick t r (noWord cleared)) x (masterLines (sm phase b h) (pick t r (noWord cleared) .engine))) (waits-cons w ws)
     ∙ ap (moved r x) (lines-first phase b h (loaded w) (levels-first phase b))
 
--- FSS is HIGH again
-abbrev pub releasedAt : Queues → ℕ → Two
-releasedAt k n = record { m = record { tx = k .mtx; rx = k .mrx; engine = parked n; lines = hidden }; s = idle k .s }
-
-module _ (phase : Bool) (b h : ℕ) (k : Queues) where
-  abbrev freed : ℕ → Side
-  freed n = record { tx = k .mtx; rx = k .mrx; engine = parked n; lines = hidden }
-
-  pub release-slot : (w v c n : ℕ) → n ≡ 2 * b + 2 → Slot (sm phase b h) (ss phase b h) (filledAt b w v k c false n) (freed n) (releasedAt k (n + 1))
-  unfolding eventOf dataBit wire lastSlot nextSlot masterLines masterTxd slaveLines slaveEnd slaveStep motorolaSlave slaveSide
-  release-slot w v c n e =
-      slot-of (sm phase b h) (ss phase b h) (filledAt b w v k c false n) (freed n) (releasedAt k (n + 1) .m) (idle k .s) (idle k .s)
-      (acted-by (sm phase b h) n (shifted (c + 1) (bitOf b w c) w (cut b v)) (k .mtx) (k .mrx) _ _ (bitOf b v c && true) Release (noWord (parked n)) (motorola-release phase b n e) refl refl)
-      (rw (lt-ltb n (2 * b + 3) (omega arith)))
-      (slave-by (ss phase b h) (wire (inFrame false (bitOf b w c))) (wire hidden) (filledAt b w v k c false n .s) (noWord cleared) cleared hidden refl refl refl)
-      refl refl
-
-  parked-acts : (n : ℕ) (d : Bool) → 0 < n → acted (sm phase b h) (freed n) d ≡ freed n
-  unfolding acted masterStep acting resting masterLines masterTxd
-  parked-acts n d l = rw (ne-eqb n 0 (omega arith))
-
-  pub pause-slot : (n : ℕ) → n ≡ 2 * b + 3 → Slot (sm phase b h) (ss phase b h) (releasedAt k n) (freed n) (idle k)
-  unfolding wire lastSlot nextSlot slaveLines slaveEnd slaveStep motorolaSlave slaveSide
-  pause-slot n e =
-      slot-of (sm phase b h) (ss phase b h) (releasedAt k n) (freed n) (idle k .m) (idle k .s) (idle k .s)
-      (parked-acts n false (omega arith))
-      (rw (le-ltb n (2 * b + 3) (omega arith)))
-      refl refl refl
-
 pub stays-idle-motorola : (phase : Bool) (b h : ℕ) → StaysIdle Motorola phase b h
 unfolding slaveStep motorolaSlave wire
 stays-idle-motorola phase b h n = refl
+
+module _ (phase : Bool) (b h : ℕ) (k : Queues) (w v c n : ℕ) where
+  -- a selected slave sees FSS HIGH
+  goes-idle : GoesIdle Motorola phase b h k (inFrame false (bitOf b w c)) (filledAt b w v k c false n .s)
+  unfolding wire slaveLines slaveEnd slaveStep motorolaSlave slaveSide
+  goes-idle = refl
+
+  pub release-slot : n ≡ 2 * b + 2 → Slot (sm phase b h) (ss phase b h) (filledAt b w v k c false n) (releasedAt Motorola k n .m) (releasedAt Motorola k (n + 1))
+  unfolding eventOf lastSlot
+  release-slot e = release.release-slot Motorola phase b h (stays-idle-motorola phase b h) k n _ _ _ (motorola-release phase b n e) (omega arith) goes-idle
+
+pub pause-slot : (phase : Bool) (b h : ℕ) (k : Queues) (n : ℕ) → n ≡ 2 * b + 3 → Slot (sm phase b h) (ss phase b h) (releasedAt Motorola k n) (releasedAt Motorola k n .m) (idle k)
+unfolding lastSlot
+pause-slot phase b h k n e = release.pause-slot Motorola phase b h (stays-idle-motorola phase b h) k n (omega arith) e
 
 -- the last word is through
 abbrev pub finalAt : ℕ → ℕ → Receiver → List ℕ → Receiver → Two
@@ -86,22 +71,14 @@ finalAt b w q vs r = filledAt b w (front vs) (received b b w (front vs) (holding
 -- from the last capture on nothing changes in the receive queues
 pub ever : (phase : Bool) (b h : ℕ) → 6 ≤ h → (w : ℕ) (q : Receiver) (vs : List ℕ) (r : Receiver) (i : ℕ)
     → Holds (push (cut b (front vs)) q) (push (cut b w) r) (iterate i (coreCycle (sm phase b h) (ss phase b h)) (rested (finalAt b w q vs r)))
-ever phase b h l w q₀ vs r₀ i =
+unfolding eventOf lastSlot
+ever phase b h l w q₀ vs r₀ =
     let v = front vs in
     let c = b - 1 in
+    let n = 2 * b + 2 in
     let q = push (cut b v) q₀ in
     let r = push (cut b w) r₀ in
     let k = holding [] q (rest vs) r in
     let x′ = shifted (c + 1) (bitOf b v c) v (cut b w) in
-    let z = calm phase b h (rest vs) r false x′ false (bitOf b w c) (bitOf b w c) (ended phase b h x′) in
-    let QM : Side → Type 0 = λ x. x .rx ≡ q in
-    let QS : Side → Type 0 = λ x. x .rx ≡ r in
-    let one = release-slot phase b h k w v c (2 * b + 2) refl in
-    let two = pause-slot phase b h k (2 * b + 2 + 1) (omega arith) in
-    trace-ever
-    (slots-trace (sm phase b h) (ss phase b h) QM QS (lawful-motorola phase b h) l z
-    (more (record { live = subst (λ (x : Side). Live (x .engine)) (sym (one .acts)) (ne-eqb (2 * b + 2) 0 (omega arith)); before = refl; during = λ j. ap (λ (x : Side). x .rx) (one .acts); slave = refl; sees = one .gets; rests = ap (λ (t : Two). t .s .rx) (one .steps) }) (one .steps)
-    (more (record { live = subst (λ (x : Side). Live (x .engine)) (sym (two .acts)) (ne-eqb (2 * b + 2 + 1) 0 (omega arith)); before = refl; during = λ j. ap (λ (x : Side). x .rx) (two .acts); slave = refl; sees = two .gets; rests = ap (λ (t : Two). t .s .rx) (two .steps) }) (two .steps) none)))
-    (refl, refl)
-    (idle-stays Motorola phase b h (stays-idle-motorola phase b h) q (rest vs) r)
-    i
+    release.ever Motorola phase b h (stays-idle-motorola phase b h) (lawful-motorola phase b h) l q (rest vs) r n _ _ _ (motorola-release phase b n refl) (omega arith) (omega arith) (goes-idle phase b h k w v c n)
+    (calm phase b h (rest vs) r false x′ false (bitOf b w c) (bitOf b w c) (ended phase b h x′)) refl

@@ -16,7 +16,7 @@ use Rattle.frames.specs.Master.{masterStep}
 use Rattle.serial.specs.Slave.{slaveStep, slaveEnd}
 use Rattle.serial.specs.Cycle.{DeviceModel, stepOf, endOf, takeIf, receiveIf, deviceStep, completedOf, cycleOf}
 use Rattle.serial.specs.Pair.{wire, PairModel, pairCycle}
-use Rattle.serial.specs.Demand3.{completed}
+use Rattle.serial.specs.Demand3.{Agree, completed}
 use Rattle.serial.specs.Demand3.Which.{master, slave}
 use Rattle.serial.proofs.Cycles.{step-tx, waits}
 use Rattle.serial.proofs.Exchange.Core.{Receiver, Side, Pair, plain, push, moved, withEngine, acted, masterSide, slaveSide, coreCycle}
@@ -60,7 +60,12 @@ coreOf p l k g =
 pub record Paired (f : Format) (phase p : Bool) (b h k : ℕ) (o : Bool) (g : PairModel) : Type 0 where
   pub wiring : Wiring f phase b h
   pub master : settingsOf (g .first .registers .control) ≡ given f phase p b h false o
-  pub slave : settingsOf (g .second .registers .control) ≡ given f phase p b k true false
+  -- SPH and SPO of the slave
+  pub its-phase : Bool
+  pub its-polarity : Bool
+  pub phases : Agree f its-phase phase
+  pub polarities : Agree f its-polarity p
+  pub slave : settingsOf (g .second .registers .control) ≡ given f its-phase its-polarity b k true false
 
 -- the word of a device that waits, once SSE is 1
 waits-on : (m : Model) → enabledOf (m .control) ≡ true → waitingOf m ≡ waits (m .tx)
@@ -92,8 +97,8 @@ module _ {f : Format} {phase p : Bool} {b h k : ℕ} {o : Bool} (g : PairModel) 
       let old = g .second .pins .oldest in
       let mid = g .second .pins .middle in
       ap (λ (s : Settings). stepOf s e (g .second .pins) x (waitingOf m) (getD (m .tx) 0 0)) (P .slave)
-      ∙ ap₂ (λ (u v : Pins). slaveStep (given f phase p b k true false) e u v (getD (m .tx) 0 0)) (sym (turn-pins-twice q old)) (sym (turn-pins-twice q mid))
-      ∙ P .wiring .turned p k e (turnPins q old) (turnPins q mid) (getD (m .tx) 0 0)
+      ∙ ap₂ (λ (u v : Pins). slaveStep (given f (P .its-phase) (P .its-polarity) b k true false) e u v (getD (m .tx) 0 0)) (sym (turn-pins-twice q old)) (sym (turn-pins-twice q mid))
+      ∙ P .wiring .turned (P .its-phase) p (P .its-polarity) k (P .phases) (P .polarities) e (turnPins q old) (turnPins q mid) (getD (m .tx) 0 0)
 
 -- a device after a step R, as the exchange sees it
 abbrev stepped : Bool → List ℕ → DeviceModel → Settings → Step → Side
@@ -136,7 +141,7 @@ module _ {f : Format} {phase p : Bool} {b h k : ℕ} {o : Bool} (g : PairModel) 
   unfolding pairCycle endOf linesOf slaveSide slaveLines slaveEnd
   second-side =
       let x = wire (g .first .lines) in
-      let s = given f phase p b k true false in
+      let s = given f (P .its-phase) (P .its-polarity) b k true false in
       let q = turns f p in
       let r = slaveStep (plain f phase b h true) (g .second .engine) (turnPins q (g .second .pins .oldest)) (turnPins q (g .second .pins .middle)) (getD (g .second .registers .tx) 0 0) in
       side-cycle false j (g .second) x s r (P .slave) (second-step g P x)

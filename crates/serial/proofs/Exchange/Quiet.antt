@@ -9,30 +9,30 @@ use Rattle.registers.proofs.Picks.{pick-both}
 use Rattle.registers.specs.declared.settings.Format.{Format}
 use Rattle.registers.specs.declared.settings.Format.the-variants.{Motorola, Ti, Microwire, Reserved}
 use Rattle.registers.specs.declared.settings.Settings.{Settings}
-use Rattle.frames.specs.Engine.{noWord}
+use Rattle.frames.specs.Engine.{cleared, noWord}
 use Rattle.frames.specs.Lines.{slaveLines}
-use Rattle.serial.specs.Slave.{slaveStep, slaveEnd, endedOn, afterTaking, motorolaSlave, motorolaSelect, motorolaEdges, motorolaClock, captureEdge, driveEdge, tiSlave}
+use Rattle.frames.specs.Slots.{captureWidth}
+use Rattle.serial.specs.Slave.{slaveStep, slaveEnd, endedOn, wordOver, afterTaking, motorolaSlave, motorolaSelect, motorolaEdges, motorolaClock, captureEdge, driveEdge, tiSlave, microwireSlave, microwireEdges}
 use Rattle.serial.proofs.Exchange.Core.{Side, withEngine, moved, plain, slaveSide}
 use Rattle.serial.proofs.Exchange.Settle.{Lawful}
 use Rattle.frames.specs.declared.engine.Engine.{Engine}
 use Rattle.frames.specs.declared.engine.Step.{Step}
 use Rattle.frames.specs.declared.lines.Pins.{Pins}
 
-ended-frame : (f : Format) (e : Engine) → endedOn f e .frame ≡ false
-ended-frame Motorola e = refl
-ended-frame Ti e = refl
-ended-frame Microwire e = refl
-ended-frame Reserved e = refl
+ended-on-twice : (f : Format) (w : ℕ) (e : Engine) → pick (endedOn f e .frame && leb w (endedOn f e .shift .captured)) (endedOn f (endedOn f e)) (endedOn f e) ≡ endedOn f e
+ended-on-twice Motorola w e = refl
+ended-on-twice Ti w e = refl
+ended-on-twice Microwire w e = pick-both (λ (x : Engine). x ≡ e) (e .frame && leb w (e .shift .captured)) _ _ (λ _. refl) (λ _. refl)
+ended-on-twice Reserved w e = refl
 
 -- what has ended stays ended
 ended-twice : (s : Settings) (e : Engine) → slaveEnd s (slaveEnd s e) ≡ slaveEnd s e
 unfolding slaveEnd
-ended-twice s e = go (e .frame && leb (s .bits) (e .shift .captured)) refl
+ended-twice s e = go (wordOver s e) refl
   where
-    go : (t : Bool) → (e .frame && leb (s .bits) (e .shift .captured)) ≡ t
-        → pick (pick t (endedOn (s .format) e) e .frame && leb (s .bits) (pick t (endedOn (s .format) e) e .shift .captured)) (endedOn (s .format) (pick t (endedOn (s .format) e) e)) (pick t (endedOn (s .format) e) e)
-        ≡ pick t (endedOn (s .format) e) e
-    go true h = ap (λ (u : Bool). pick (u && leb (s .bits) (endedOn (s .format) e .shift .captured)) (endedOn (s .format) (endedOn (s .format) e)) (endedOn (s .format) e)) (ended-frame (s .format) e)
+    go : (t : Bool) → wordOver s e ≡ t
+        → pick (wordOver s (pick t (endedOn (s .format) e) e)) (endedOn (s .format) (pick t (endedOn (s .format) e) e)) (pick t (endedOn (s .format) e) e) ≡ pick t (endedOn (s .format) e) e
+    go true h = ended-on-twice (s .format) (captureWidth s) e
     go false h = ap (λ (u : Bool). pick u (endedOn (s .format) e) e) h
 
 -- a cycle without an edge
@@ -68,17 +68,31 @@ quiet-low true b h false d d′ e n = pick-both (λ (r : Step). r ≡ noWord e) 
 quiet-low false b h true d d′ e n = pick-both (λ (r : Step). r ≡ noWord e) (e .selected) _ _ (λ _. ap (afterTaking false) (clock-quiet (plain Motorola false b h true) e n _)) (λ _. refl)
 quiet-low false b h false d d′ e n = pick-both (λ (r : Step). r ≡ noWord e) (e .selected) _ _ (λ _. ap (afterTaking false) (clock-quiet (plain Motorola false b h true) e n _)) (λ _. refl)
 
--- with FSS HIGH the engine is clear at once
-pub lawful-motorola : (phase : Bool) (b h : ℕ) → Lawful (plain Motorola phase b h true)
-unfolding slaveSide slaveStep motorolaSlave
-lawful-motorola phase b h p q r x = go (p .fss)
+-- Microwire with FSS LOW
+pub quiet-microwire : (phase : Bool) (b h : ℕ) (c d d′ : Bool) (e : Engine) (n : ℕ) → slaveStep (plain Microwire phase b h true) e (record { clk = c; fss = false; rxd = d }) (record { clk = c; fss = false; rxd = d′ }) n ≡ noWord e
+unfolding slaveStep microwireSlave microwireEdges
+quiet-microwire phase b h true d d′ e n = rw (and-false (e .selected))
+quiet-microwire phase b h false d d′ e n = rw (and-false (e .selected))
+
+-- a slave that is clear with FSS HIGH, and stays as it is when it sees no edge with FSS LOW
+selected-rests : (s : Settings) → ((c d : Bool) (x : Side) → slaveSide s (record { clk = c; fss = true; rxd = d }) (record { clk = c; fss = true; rxd = d }) x ≡ calm s (withEngine x cleared))
+    → ((c d : Bool) (e : Engine) (n : ℕ) → slaveStep s e (record { clk = c; fss = false; rxd = d }) (record { clk = c; fss = false; rxd = d }) n ≡ noWord e) → Lawful s
+selected-rests s high low p q r x = go (p .fss)
   where
     go : (f : Bool)
-        → (let s = plain Motorola phase b h true in
-        let p′ : Pins = record { clk = p .clk; fss = f; rxd = p .rxd } in
+        → (let p′ : Pins = record { clk = p .clk; fss = f; rxd = p .rxd } in
         slaveSide s p′ p′ (slaveSide s p′ p′ (slaveSide s q r x)) ≡ slaveSide s p′ p′ (slaveSide s q r x))
-    go true = refl
-    go false = quiet-rests (plain Motorola phase b h true) (record { clk = p .clk; fss = false; rxd = p .rxd }) (quiet-low phase b h (p .clk) (p .rxd) (p .rxd)) q r x
+    go true = high (p .clk) (p .rxd) (slaveSide s (record { clk = p .clk; fss = true; rxd = p .rxd }) (record { clk = p .clk; fss = true; rxd = p .rxd }) (slaveSide s q r x))
+        ∙ ap (λ (y : Side). calm s (withEngine y cleared)) (high (p .clk) (p .rxd) (slaveSide s q r x)) ∙ sym (high (p .clk) (p .rxd) (slaveSide s q r x))
+    go false = quiet-rests s (record { clk = p .clk; fss = false; rxd = p .rxd }) (low (p .clk) (p .rxd)) q r x
+
+pub lawful-motorola : (phase : Bool) (b h : ℕ) → Lawful (plain Motorola phase b h true)
+unfolding slaveSide slaveStep motorolaSlave
+lawful-motorola phase b h = selected-rests (plain Motorola phase b h true) (λ c d x. refl) (λ c d. quiet-low phase b h c d d)
+
+pub lawful-microwire : (phase : Bool) (b h : ℕ) → Lawful (plain Microwire phase b h true)
+unfolding slaveSide slaveStep microwireSlave
+lawful-microwire phase b h = selected-rests (plain Microwire phase b h true) (λ c d x. refl) (λ c d. quiet-microwire phase b h c d d)
 
 -- TI
 pub quiet-ti : (phase : Bool) (b h : ℕ) (c f d f′ d′ : Bool) (e : Engine) (n : ℕ) → slaveStep (plain Ti phase b h true) e (record { clk = c; fss = f; rxd = d }) (record { clk = c; fss = f′; rxd = d′ }) n ≡ noWord e

@@ -12,8 +12,9 @@ use Rattle.frames.specs.Engine.{noWord}
 use Rattle.frames.specs.Slots.{eventOf, lastSlot, widthOf, levelsOf}
 use Rattle.frames.specs.Lines.{differ, idleOn, clockOn, joinedTo, masterLines, frameLines, masterTxd}
 use Rattle.frames.specs.Master.{act, masterStep, masterEnd, ticked, acting, dataBit}
-use Rattle.serial.specs.Slave.{slaveStep, motorolaSlave, motorolaSelect, motorolaEdges, motorolaClock, captureEdge, driveEdge, tiSlave, tiFalls, tiRises}
+use Rattle.serial.specs.Slave.{slaveStep, motorolaSlave, motorolaSelect, motorolaEdges, motorolaClock, captureEdge, driveEdge, tiSlave, tiFalls, tiRises, microwireSlave, microwireEdges, microwireRises, dataRises, microwireFalls}
 use Rattle.serial.specs.Pair.{wire}
+use Rattle.serial.specs.Demand3.{Agree}
 use Rattle.serial.proofs.Exchange.Core.{plain}
 use Rattle.frames.specs.declared.engine.Engine.{Engine}
 use Rattle.frames.specs.declared.engine.Step.{Step}
@@ -112,15 +113,16 @@ wire-plain f p = ap wire (idle-plain f p)
 
 -- The slave ---------------------------------------------------------------------------------------------------------------
 
--- a slave with SPO p that sees the clock turned over acts as a plain one that sees the clock itself
+-- a slave whose SPO and SPH agree with the master's, and that sees the clock turned over, acts as a plain one that sees the clock itself
 abbrev pub Turned : Format → Bool → ℕ → ℕ → Type 0
 Turned f phase b h =
-    (p : Bool) (k : ℕ) (e : Engine) (x y : Pins) (n : ℕ)
-    → slaveStep (given f phase p b k true false) e (turnPins (turns f p) x) (turnPins (turns f p) y) n ≡ slaveStep (plain f phase b h true) e x y n
+    (phase′ p p′ : Bool) (k : ℕ) → Agree f phase′ phase → Agree f p′ p → (e : Engine) (x y : Pins) (n : ℕ)
+    → slaveStep (given f phase′ p′ b k true false) e (turnPins (turns f p) x) (turnPins (turns f p) y) n ≡ slaveStep (plain f phase b h true) e x y n
 
 pub turned-motorola : (phase : Bool) (b h : ℕ) → Turned Motorola phase b h
 unfolding slaveStep motorolaSlave motorolaSelect motorolaEdges motorolaClock captureEdge driveEdge dataBit
-turned-motorola phase b h p k e x y n = go p (x .clk) (y .clk)
+turned-motorola phase b h phase′ p p′ k u v e x y n =
+    ap₂ (λ (f q : Bool). slaveStep (given Motorola f q b k true false) e (turnPins (turns Motorola p) x) (turnPins (turns Motorola p) y) n) u v ∙ go p (x .clk) (y .clk)
   where
     go : (p c d : Bool) → slaveStep (given Motorola phase p b k true false) e (record { clk = differ c p; fss = x .fss; rxd = x .rxd }) (record { clk = differ d p; fss = y .fss; rxd = y .rxd }) n
         ≡ slaveStep (plain Motorola phase b h true) e (record { clk = c; fss = x .fss; rxd = x .rxd }) (record { clk = d; fss = y .fss; rxd = y .rxd }) n
@@ -139,4 +141,8 @@ turn-none x = ap (λ (c : Bool). record { clk = c; fss = x .fss; rxd = x .rxd })
 
 pub turned-ti : (phase : Bool) (b h : ℕ) → Turned Ti phase b h
 unfolding slaveStep tiSlave tiFalls tiRises dataBit
-turned-ti phase b h p k e x y n = ap₂ (λ (u v : Pins). slaveStep (plain Ti phase b h true) e u v n) (turn-none x) (turn-none y)
+turned-ti phase b h phase′ p p′ k u v e x y n = ap₂ (λ (u v : Pins). slaveStep (plain Ti phase b h true) e u v n) (turn-none x) (turn-none y)
+
+pub turned-microwire : (phase : Bool) (b h : ℕ) → Turned Microwire phase b h
+unfolding slaveStep microwireSlave microwireEdges microwireRises dataRises microwireFalls dataBit
+turned-microwire phase b h phase′ p p′ k u v e x y n = ap₂ (λ (u v : Pins). slaveStep (plain Microwire phase b h true) e u v n) (turn-none x) (turn-none y)
