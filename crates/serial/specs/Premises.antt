@@ -33,10 +33,11 @@ preparedSlave cr0 v w = prepared cr0 2 0x4 v w
 abbrev pub motorola : ℕ
 motorola = 0x03
 
--- CR0 for Microwire, b = 4, with SPH 0, SPO 0 and with SPH 1, SPO 1.
+-- CR0 for Microwire, SPH 0, SPO 0, b = 4.
 abbrev pub microwire : ℕ
 microwire = 0x23
 
+-- The same with SPH 1, SPO 1.
 abbrev pub microwireUnlike : ℕ
 microwireUnlike = 0xE3
 
