@@ -28,7 +28,7 @@ cargo build --quiet --offline --locked --release --manifest-path "$here/Cargo.to
 compare=$CARGO_TARGET_DIR/release/compare
 
 # The second program on the vectors, then the library beside it.
-vectors=../shared/vectors-1
+vectors=../shared/vectors-2
 if [ -d "$vectors" ]; then
     "$here/vectors.sh" "$vectors"
     for script in "$vectors"/*.in; do

@@ -140,7 +140,7 @@ enum pl022_register {
 
 /* Interrupts: in IMSC a one lets through; RIS is raw, MIS masked; in ICR a one clears ROR or RT. */
 #define PL022_INT_ROR 0x1u              /* overrun: a received word was dropped */
-#define PL022_INT_RT 0x2u               /* timeout: received words wait to be read */
+#define PL022_INT_RT 0x2u               /* timeout: words wait to be read; a new one clears it */
 #define PL022_INT_RX 0x4u               /* four or more words received */
 #define PL022_INT_TX 0x8u               /* four or fewer words to send */
 

@@ -2,13 +2,19 @@
 
 use crate::device::{Device, Format, Queue};
 use crate::model::{Model, Second};
-use crate::record::{at, decode, encode};
+use crate::record::{at, decode, encode, LENGTH};
 use std::ops::RangeInclusive;
 
-pub const FAULTS: u32 = 19;
+pub const FAULTS: u32 = 26;
 
 /// Those of a Microwire slave.
 pub const MICROWIRE_FAULTS: RangeInclusive<u32> = 15..=18;
+
+/// Those of the receive timeout as words arrive.
+pub const TIMEOUT_FAULTS: RangeInclusive<u32> = 19..=25;
+
+/// Those that spoil single cycles of a run.
+const CYCLE_FAULTS: RangeInclusive<u32> = 15..=23;
 
 /// Faults that show in bytes 12 to 23 alone, some only after damage.
 fn spoil_engine(number: u32, record: &mut [u8]) {
@@ -26,15 +32,17 @@ fn spoil_engine(number: u32, record: &mut [u8]) {
     }
 }
 
-/// The state of a Microwire slave that is enabled; None for any other record.
-fn microwire_slave(record: &[u8]) -> Option<Device> {
+/// The state of a device that is enabled; None for any other record.
+fn enabled_device(record: &[u8]) -> Option<Device> {
     let device = decode(record.try_into().ok()?)?;
-    let microwire = device.slave() && device.format() == Format::Microwire;
-    (microwire && device.enabled()).then_some(device)
+    device.enabled().then_some(device)
 }
 
 /// Faults of a Microwire slave in one cycle, which led from the one state to the other.
 fn spoil_microwire(number: u32, before: &Device, after: &mut Device) {
+    if !after.slave() || after.format() != Format::Microwire {
+        return;
+    }
     let last = 17 + 2 * after.bits();
     match number {
         15 if before.captured == 7 && after.captured == 8 => {
@@ -66,16 +74,65 @@ fn cut_last(queue: &Queue, b: u8) -> Queue {
     Queue::from_words(&words).unwrap_or_default()
 }
 
+/// A word arrived in the cycle with these pins: kept, or lost to overrun.
+#[derive(PartialEq)]
+enum Arrival {
+    None,
+    Kept,
+    Lost,
+}
+
+fn arrival(before: &Device, pins: u8) -> Arrival {
+    // ROR may be set already, so it is looked for in a copy without it.
+    let mut after = Device { ror: false, ..before.clone() };
+    after.cycle(pins);
+    if after.ror {
+        Arrival::Lost
+    } else if after.rx.len() > before.rx.len() {
+        Arrival::Kept
+    } else {
+        Arrival::None
+    }
+}
+
+/// Faults of the receive timeout in one cycle, from the one state to the other.
+fn spoil_timeout(number: u32, before: &Device, pins: u8, after: &mut Device) {
+    let arrival = arrival(before, pins);
+    match number {
+        // A word that is kept, or one that is lost, does not clear RT.
+        19 if arrival == Arrival::Kept => after.rt |= before.rt,
+        20 if arrival == Arrival::Lost => after.rt |= before.rt,
+        // The arrival clears the count too.
+        21 if arrival != Arrival::None => {
+            *after = Device { rt_count: 0, ..before.clone() };
+            after.cycle(pins);
+        }
+        // It clears RT after the end of the cycle, so that a set is lost.
+        22 if arrival != Arrival::None => after.rt = false,
+        // RT is cleared as soon as a frame begins.
+        23 if after.frame && !before.frame => after.rt = false,
+        _ => {}
+    }
+}
+
 /// One cycle after the other, each with its fault.
-fn run_microwire(number: u32, record: &mut [u8], input: &[u8], output: &mut [u8]) {
+fn run_spoiled(number: u32, record: &mut [u8], input: &[u8], output: &mut [u8]) {
     for (pins, lines) in input.iter().zip(output) {
-        let before = microwire_slave(record);
+        let before = enabled_device(record);
         Second.run(record, &[*pins], std::slice::from_mut(lines));
-        if let (Some(before), Some(mut after)) = (before, microwire_slave(record)) {
+        if let (Some(before), Some(mut after)) = (before, enabled_device(record)) {
             spoil_microwire(number, &before, &mut after);
+            spoil_timeout(number, &before, *pins, &mut after);
             *lines = after.lines;
             record.copy_from_slice(&encode(&after));
         }
+    }
+}
+
+/// RT stays up, although words were kept.
+fn keep_timeout(before: &[u8], record: &mut [u8]) {
+    if record.len() == LENGTH && record[at::RX_COUNT] > before[at::RX_COUNT] {
+        record[at::RT] |= before[at::RT];
     }
 }
 
@@ -109,8 +166,8 @@ impl Model for Faulty {
         let mut start = record.to_vec();
         let refusal = Second.run(record, input, output);
         match self.0 {
-            number if refusal == 0 && MICROWIRE_FAULTS.contains(&number) => {
-                run_microwire(number, &mut start, input, output);
+            number if refusal == 0 && CYCLE_FAULTS.contains(&number) => {
+                run_spoiled(number, &mut start, input, output);
                 record.copy_from_slice(&start);
             }
             3 if refusal == 12 => output[0] = 0,
@@ -123,7 +180,11 @@ impl Model for Faulty {
     }
 
     fn run_to_idle(&self, record: &mut [u8], input: &[u8], output: &mut [u8]) -> (u64, u64) {
+        let start = record.to_vec();
         let (refusal, count) = Second.run_to_idle(record, input, output);
+        if self.0 == 24 {
+            keep_timeout(&start, record);
+        }
         match self.0 {
             6 if refusal == 0 && count == 0 && !input.is_empty() => (0, 1),
             7 if refusal == 12 => (11, 0),
@@ -135,6 +196,12 @@ impl Model for Faulty {
         if self.0 == 8 {
             return Second.pair_run(second, first, cycles.saturating_sub(1));
         }
-        Second.pair_run(first, second, cycles)
+        let start = [first.to_vec(), second.to_vec()];
+        let refusal = Second.pair_run(first, second, cycles);
+        if self.0 == 25 {
+            keep_timeout(&start[0], first);
+            keep_timeout(&start[1], second);
+        }
+        refusal
     }
 }

@@ -2,7 +2,7 @@
 
 use compare::bench::Bench;
 use compare::cases::{run, Plan};
-use compare::fault::{Faulty, FAULTS, MICROWIRE_FAULTS};
+use compare::fault::{Faulty, FAULTS, MICROWIRE_FAULTS, TIMEOUT_FAULTS};
 use compare::model::Second;
 
 const PLAN: Plan = Plan { seed: 77, rounds: 16, limit: None };
@@ -23,10 +23,11 @@ fn each_fault_is_found() {
     }
 }
 
-/// A Microwire slave gets far enough in a few rounds, whatever the seed.
+/// A Microwire slave gets far enough, and words arrive with RT up and with the count at its
+/// limit, in a few rounds, whatever the seed.
 #[test]
-fn each_microwire_fault_is_found_soon() {
-    for number in MICROWIRE_FAULTS {
+fn these_faults_are_found_soon() {
+    for number in MICROWIRE_FAULTS.chain(TIMEOUT_FAULTS) {
         for seed in 1..=10 {
             let faulty = Faulty(number);
             let mut bench = Bench::new(&Second, &faulty);

@@ -372,6 +372,30 @@ dump_has 'cr0=3 cr1=3 cpsr=2 imsc=0 dmacr=0 tx= rx=1,2,3,4,5,6,7,8 ror=1 rt=1 rt
 dump_has 'cr0=ff03 cr1=2 cpsr=fe imsc=0 dmacr=0 tx= rx=1,2,3,4,5,6,7,8 ror=1 rt=0 rtcount=70000 frame=0 lines=a'
 dump_has 'cr0=0 cr1=0 cpsr=0 imsc=0 dmacr=0 tx=1234,5 rx= ror=0 rt=0 rtcount=0 frame=0 lines=a'
 
+# RT comes 64 cycles after the frame of the last word and goes with the last bit of a new one, held or dropped.
+{
+    printf 'w 0 10 2\nw 0 0 3\nw 0 4 3\nw 0 8 1\npair 73\ndump 0\npair 1\ndump 0\n'
+    printf 'w 0 8 a\npair 8\ndump 0\npair 1\ndump 0\npair 3\n'
+    for word in 3 4 5 6 7 8; do
+        printf 'w 0 8 %s\npair 12\n' "$word"
+    done
+    printf 'pair 62\ndump 0\nw 0 8 9\npair 8\ndump 0\npair 1\ndump 0\n'
+} >"$dir/script"
+run "$dir/script"
+loops='cr0=3 cr1=3 cpsr=2 imsc=0 dmacr=0 tx='
+grep '^cr0' "$dir/out" >"$dir/dumps"
+cat >"$dir/expected" <<END
+$loops rx=1 ror=0 rt=0 rtcount=63 frame=0 lines=a
+$loops rx=1 ror=0 rt=1 rtcount=0 frame=0 lines=a
+$loops rx=1 ror=0 rt=1 rtcount=0 frame=1 lines=0
+$loops rx=1,a ror=0 rt=0 rtcount=0 frame=1 lines=1
+$loops rx=1,a,3,4,5,6,7,8 ror=0 rt=1 rtcount=0 frame=0 lines=a
+$loops rx=1,a,3,4,5,6,7,8 ror=0 rt=1 rtcount=0 frame=1 lines=4
+$loops rx=1,a,3,4,5,6,7,8 ror=1 rt=0 rtcount=0 frame=1 lines=5
+END
+check "RT: dumps" same "$dir/dumps" "$dir/expected"
+check "RT: no message" equal "$(cat "$dir/err")" ""
+
 # Wires hold while the other device runs; refused and empty runs take no time.
 cat "$scripts/p1.txt" >"$dir/script"
 cat >>"$dir/script" <<'END'

@@ -1,7 +1,7 @@
 //! Runs and runs to idle in all formats, both roles.
 
 use super::accesses::{any, gentle};
-use super::settings::{self, disable, enabling, length, read, set_up, write, CR0, CR1, ICR, SSE};
+use super::settings::{self, disable, enabling, length, set_up, write, CR0, CR1, SSE};
 use super::waves::{bursts, noise, wave_for, Source};
 use crate::bench::{Bench, Step};
 use crate::random::Random;
@@ -98,44 +98,6 @@ fn follow(bench: &mut Bench, random: &mut Random, source: &mut Source) -> Step<(
         }
     }
     Ok(())
-}
-
-/// The receive timeout, on both sides of its limit.
-pub fn timeout(bench: &mut Bench, random: &mut Random) -> Step<()> {
-    let cr1 = enabling(random, false);
-    set_up(bench, random, 0, cr1)?;
-    settings::write(bench, 0, settings::CPSR, 2 + 2 * random.below(3) as u32)?;
-    write(bench, 0, CR1, cr1)?;
-    let h = slot_cycles(bench.record(0));
-    if h > 64 {
-        return Ok(());
-    }
-    let input = noise(random, 500 * h);
-    settings::idle(bench, 0, input)?;
-    for _ in 0..12 {
-        let cycles = match random.below(5) {
-            0 => 64 * h,
-            1 => 64 * h - 1,
-            2 => 1,
-            3 => random.size(130 * h),
-            _ => random.size(8),
-        };
-        let input = noise(random, cycles);
-        settings::run(bench, 0, input)?;
-        read(bench, 0, 0x18)?;
-        match random.below(6) {
-            0 => drop(read(bench, 0, 0x08)?),
-            1 => drop(write(bench, 0, ICR, random.below(4) as u32)?),
-            2 => gentle(bench, random, 0)?,
-            _ => {}
-        }
-    }
-    Ok(())
-}
-
-/// h as a record has it.
-pub fn slot_cycles(record: &[u8]) -> usize {
-    usize::from(record[3] / 2) * (1 + usize::from(record[1]))
 }
 
 /// The same device as master, then slave, then master, with its queues kept.

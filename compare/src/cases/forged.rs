@@ -84,7 +84,7 @@ pub fn pair(bench: &mut Bench, random: &mut Random) -> Step<()> {
     Ok(())
 }
 
-fn put(record: &mut [u8], place: usize, value: u32, bytes: usize) {
+pub fn put(record: &mut [u8], place: usize, value: u32, bytes: usize) {
     record[place..place + bytes].copy_from_slice(&value.to_le_bytes()[..bytes]);
 }
 
@@ -132,7 +132,7 @@ fn forge(random: &mut Random) -> [u8; LENGTH] {
 }
 
 /// An enabled device with short slots, its counts where something is decided.
-fn forge_odd(random: &mut Random) -> [u8; LENGTH] {
+pub fn forge_odd(random: &mut Random) -> [u8; LENGTH] {
     let mut record = forge(random);
     let h = 1 + random.below(3) as u32;
     put(&mut record, at::CR0, permitted_cr0(random, 0), 2);
@@ -176,12 +176,12 @@ fn forge_microwire(random: &mut Random, dss: u32, slot: u32, flags: u32) -> [u8;
     record
 }
 
-fn is_microwire(record: &[u8]) -> bool {
+pub fn is_microwire(record: &[u8]) -> bool {
     record[at::CR0] & 0x30 == 0x20
 }
 
 /// The limit of captured bits: b, but eight in a Microwire slave.
-fn most_captured(record: &[u8]) -> u32 {
+pub fn most_captured(record: &[u8]) -> u32 {
     if is_microwire(record) && record[at::CR1] & 4 != 0 {
         8
     } else {
@@ -190,7 +190,7 @@ fn most_captured(record: &[u8]) -> u32 {
 }
 
 /// b and the format's last slot.
-fn sizes(record: &[u8]) -> (u32, u32) {
+pub fn sizes(record: &[u8]) -> (u32, u32) {
     let b = u32::from(record[at::CR0] & 15) + 1;
     (b, 2 * b + [3, 1, 20, 3][usize::from(record[at::CR0] >> 4 & 3)])
 }

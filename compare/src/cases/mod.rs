@@ -8,6 +8,7 @@ mod forged;
 mod pairs;
 mod settings;
 mod slow;
+mod timeout;
 mod waves;
 
 use crate::bench::{Bench, Step};
@@ -25,12 +26,12 @@ pub struct Plan {
 type Case = fn(&mut Bench, &mut Random) -> Step<()>;
 
 /// Name, the case, and in which rounds it runs: each n-th.
-const CASES: [(&str, Case, u64); 18] = [
+const CASES: [(&str, Case, u64); 21] = [
     ("accesses", accesses::sequence, 1),
     ("offsets", accesses::every_offset, 16),
     ("master", engine::master, 1),
     ("slave", engine::slave, 1),
-    ("timeout", engine::timeout, 1),
+    ("timeout", timeout::limit, 1),
     ("change of role", engine::change_of_role, 1),
     ("buffers", buffers::wrong, 1),
     ("bit flips", damage::every_bit, 4),
@@ -44,6 +45,9 @@ const CASES: [(&str, Case, u64); 18] = [
     ("microwire slave", engine::microwire_slave, 1),
     ("microwire slots", forged::microwire_slots, 16),
     ("captured bits", forged::captured_bits, 16),
+    ("late words", timeout::late_words, 1),
+    ("late words in a pair", timeout::late_pair, 1),
+    ("arrivals", timeout::arrivals, 1),
 ];
 
 pub fn run(bench: &mut Bench, plan: &Plan) -> Step<u64> {

@@ -7,7 +7,7 @@ use crate::command::Command;
 use crate::random::Random;
 use crate::record::at;
 
-fn pair_run(bench: &mut Bench, cycles: u64) -> Step<()> {
+pub fn pair_run(bench: &mut Bench, cycles: u64) -> Step<()> {
     bench.step(Command::PairRun { cycles })?;
     Ok(())
 }

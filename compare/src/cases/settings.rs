@@ -6,7 +6,7 @@ use crate::random::Random;
 use crate::record::at;
 use crate::session::Outcome;
 
-pub use crate::device::offset::{CPSR, CR0, CR1, DR, ICR};
+pub use crate::device::offset::{CPSR, CR0, CR1, DR, ICR, IMSC, MIS, RIS};
 
 pub const SSE: u32 = 2;
 pub const MS: u32 = 4;
@@ -49,6 +49,11 @@ pub fn speed(random: &mut Random) -> (u32, u32) {
         }
         _ => (2 + 2 * random.below(127) as u32, random.below(256) as u32),
     }
+}
+
+/// h as a record has it.
+pub fn slot_cycles(record: &[u8]) -> usize {
+    usize::from(record[at::CPSR] / 2) * (1 + usize::from(record[at::CR0 + 1]))
 }
 
 /// A permitted CR0 with this clock rate.

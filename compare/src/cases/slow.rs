@@ -1,7 +1,7 @@
 //! Large h, up to the largest.
 
-use super::engine::slot_cycles;
-use super::settings::{self, disable, enabling, permitted_cr0, read, write, CPSR, CR0, CR1, DR};
+use super::settings::{self, disable, enabling, permitted_cr0, read, slot_cycles, write};
+use super::settings::{CPSR, CR0, CR1, DR};
 use super::waves::noise;
 use crate::bench::{Bench, Step};
 use crate::random::Random;

@@ -46,26 +46,54 @@ fn sticky(random: &mut Random, cycles: usize, often: u64) -> Vec<u8> {
         .collect()
 }
 
+/// An enabled master with the format of this CR0 and h; None if there is none.
+fn enabled_master(cr0: u32, h: u64) -> Option<Device> {
+    let mut master = Device::reset();
+    let ready = master.write(0x00, cr0 & 0xFF).and(master.write(0x10, 2 * h as u32));
+    ready.and(master.write(0x04, 2)).ok()?;
+    Some(master)
+}
+
+/// What it shows from these words on until it is not busy.
+fn send(random: &mut Random, master: &mut Device, words: u64, wave: &mut Vec<u8>) {
+    for _ in 0..words {
+        // A full queue drops the word, which is as good.
+        let _ = master.write(0x08, random.word());
+    }
+    while master.busy() {
+        wave.push(master.cycle(0) & 7);
+    }
+}
+
 /// What a master with these settings shows: words, pauses, idle time.
 pub fn master_wave(random: &mut Random, cr0: u32) -> Vec<u8> {
-    let mut master = Device::reset();
-    let half = if random.percent(80) { 6 + random.below(3) } else { 1 + random.below(6) };
-    let ready = master.write(0x00, cr0 & 0xFF).and(master.write(0x10, 2 * half as u32));
-    if ready.and(master.write(0x04, 2)).is_err() {
+    let h = if random.percent(80) { 6 + random.below(3) } else { 1 + random.below(6) };
+    let Some(mut master) = enabled_master(cr0, h) else {
         return noise(random, 100);
-    }
+    };
     let mut wave = Vec::new();
     for _ in 0..1 + random.below(4) {
         for _ in 0..random.below(30) {
             wave.push(master.cycle(0) & 7);
         }
-        for _ in 0..1 + random.below(5) {
-            // A full queue drops the word, which is as good.
-            let _ = master.write(0x08, random.word());
-        }
-        while master.busy() {
-            wave.push(master.cycle(0) & 7);
-        }
+        let words = 1 + random.below(5);
+        send(random, &mut master, words, &mut wave);
+    }
+    wave
+}
+
+/// A master with the format of this CR0: idle lines for two cycles, then one to three words
+/// at a high speed. Now and then without the last cycles, so that FSS stays as it is in the
+/// frame.
+pub fn few_words(random: &mut Random, cr0: u32) -> Vec<u8> {
+    let Some(mut master) = enabled_master(cr0, 1 + random.below(2)) else {
+        return noise(random, 100);
+    };
+    let mut wave = vec![master.idle_lines() & 7; 2];
+    let words = 1 + random.below(3);
+    send(random, &mut master, words, &mut wave);
+    if random.percent(30) {
+        wave.truncate(wave.len() - 1 - random.size(4));
     }
     wave
 }

@@ -247,7 +247,16 @@ impl Device {
         }
         self.receiving = self.receiving << 1 | u16::from(level);
         self.captured += 1;
-        if self.all_captured() && !self.rx.push(self.receiving & self.incoming_mask()) {
+        if self.all_captured() {
+            self.word_arrives(self.receiving & self.incoming_mask());
+        }
+    }
+
+    /// A word clears RT, be it kept or lost (D113): the flag, not the count, and before
+    /// the cycle's end, which may set it again (D114).
+    fn word_arrives(&mut self, word: u16) {
+        self.rt = false;
+        if !self.rx.push(word) {
             self.ror = true;
         }
     }

@@ -1,7 +1,7 @@
 -- What the serial engine does to the register file: it takes words to send, hands in received ones, and ends each cycle.
 use Prim.Native.Nat.{ℕ, _+_, _≤_}
 use mathlib.Core.Path.{_≡_}
-use mathlib.Core.Bool.{Bool, true, not, _&&_, _||_}
+use mathlib.Core.Bool.{Bool, true, false, not, _&&_, _||_}
 use lib.ListN.{length, getD}
 use lib.Dec.{ltb, leb, eqb}
 unfoldable pub use Rattle.queue.specs.Fifo.{added}
@@ -25,9 +25,12 @@ nextWord m = getD (m .tx) 0 0
 unfoldable pub takeWord : Model → Model
 takeWord m = withTx m (rest (m .tx))
 
--- A completed word enters the receive queue. With eight held it is dropped, the eight stay, and ROR is set.
+-- A completed word enters the receive queue; with eight held it is dropped instead, the eight stay, and ROR is set. Either way
+-- RT is cleared, and its count stays.
 unfoldable pub receiveWord : Model → ℕ → Model
-receiveWord m w = withRor (withRx m (added (m .rx) w)) (m .ror || not (ltb (length (m .rx)) 8))
+receiveWord m w =
+    withTimeout (withRor (withRx m (added (m .rx) w)) (m .ror || not (ltb (length (m .rx)) 8)))
+    (record { rt = false; count = m .timeout .count })
 
 -- The cycle counts for the timeout: words held, SSE set, no frame in progress at its end.
 unfoldable pub idlesOf : Model → Bool → Bool
@@ -42,7 +45,8 @@ pub record LimitOf (m : Model) (r : Cycles) : Type 0 where
   pub limit : r ≡ limitOf m
   pub most : r .0 ≤ 2080768
 
--- The timeout at the end of a cycle. The count returns to zero when RT is set.
+-- The timeout at the end of a cycle. One that counts sets RT at the limit, where the count returns to zero; any other leaves RT
+-- and makes the count zero.
 unfoldable pub timeoutOf : Model → Bool → Timeout
 timeoutOf m frame =
     pick (idlesOf m frame)

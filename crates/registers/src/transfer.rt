@@ -37,7 +37,7 @@ pub fn take_word(r: Registers) -> Registers
     next
 }
 
-// A completed word: kept, or lost with the overrun flag set.
+// A completed word: kept, or lost with the overrun flag set; either way RT is cleared, and its count stays.
 pub fn receive_word(r: Registers, word: u16) -> Registers
     ensures { λ n. ⌜ modelOf n ≡ receiveWord (modelOf r) word ⌝ }
 {
@@ -45,6 +45,7 @@ pub fn receive_word(r: Registers, word: u16) -> Registers
     let rx = added.queue;
     let kept = added.kept;
     let mut next = r;
+    next.timeout.rt = false;
     next.rx = rx;
     next.ror = r.ror | !kept;
     next

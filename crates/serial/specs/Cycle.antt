@@ -72,7 +72,7 @@ endOf s e = pick (s .slave) (slaveEnd s e) (masterEnd s e)
 unfoldable pub takeIf : Model → Bool → Model
 takeIf m takes = pick takes (takeWord m) m
 
--- The word completed enters the receive queue.
+-- The word completed is received: it enters the receive queue or overruns.
 unfoldable pub receiveIf : Model → Bool → ℕ → Model
 receiveIf m complete w = pick complete (receiveWord m w) m
 
@@ -93,7 +93,8 @@ completedOf d pins = pick (deviceStep d pins .complete) (deviceStep d pins .word
 abbrev pub follow : History → Pins → History
 follow h pins = record { newest = pins; middle = h .newest; oldest = h .middle }
 
--- One cycle: the engine's step, the queues, the timeout by the state at the end, the pins, the lines.
+-- One cycle: the engine's step; the queues, where a word received clears RT; then the timeout by the state at the end, which may
+-- set RT; the pins, the lines.
 unfoldable pub cycleOf : DeviceModel → Pins → DeviceModel
 cycleOf d pins =
     let s = settingsOf (d .registers .control) in

@@ -9,7 +9,7 @@ add-requires c κs = search needs
 
 returns : tie.Need-returns
 unfolding receiveWord
-returns c = simp (model-of, c .before .before .add .ensures .holds, c .before .before .add .ensures .kept)
+returns c = simp (model-of, c .before .before .before .add .ensures .holds, c .before .before .before .add .ensures .kept)
 
 pub receive-word-spec : {M : Type 1} → statement M
 receive-word-spec = tie.close (tie.spec add-requires returns)
