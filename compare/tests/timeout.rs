@@ -416,7 +416,7 @@ mod made_by_hand {
         record
     }
 
-    /// One cycle later the word has arrived: kept, or lost with eight held.
+    /// The word has arrived: kept, or lost with eight held.
     fn arrived(record: &Record, words: u8) -> bool {
         let byte = record[at::CR0] & 0x30 == 0x20 && record[at::CR1] & 4 != 0;
         let word = if byte { 0xFF } else { 0xF };
@@ -427,16 +427,24 @@ mod made_by_hand {
         held(record) == all && record[at::ROR] == u8::from(lost)
     }
 
+    /// Flag, count and frame after the cycle of the arrival, however many words are held.
+    fn after(place: Place, rt: u8, count: u32) -> (u8, u32, u8) {
+        let results = [0, 1, 7, 8].map(|words| {
+            let mut record = made(place, rt, count, words);
+            cycles(&mut record, &[4]);
+            assert!(arrived(&record, words), "{place:x?}");
+            let (rt, count) = timeout(&record);
+            (rt, count, record[at::FRAME])
+        });
+        assert_eq!(results, [results[0]; 4], "{place:x?}");
+        results[0]
+    }
+
     #[test]
     fn cleared_then_set() {
         for place in OVER {
-            for words in [0, 1, 7, 8] {
-                for rt in [0, 1] {
-                    let mut record = made(place, rt, 63, words);
-                    cycles(&mut record, &[4]);
-                    assert_eq!((timeout(&record), record[at::FRAME]), ((1, 0), 0), "{place:x?}");
-                    assert!(arrived(&record, words), "{place:x?}");
-                }
+            for rt in [0, 1] {
+                assert_eq!(after(place, rt, 63), (1, 0, 0), "{place:x?}");
             }
         }
     }
@@ -445,14 +453,9 @@ mod made_by_hand {
     #[test]
     fn cleared_and_counted() {
         for place in OVER {
-            for words in [0, 1, 7, 8] {
-                for rt in [0, 1] {
-                    for count in [0, 1, 17, 62] {
-                        let mut record = made(place, rt, count, words);
-                        cycles(&mut record, &[4]);
-                        assert_eq!(timeout(&record), (0, count + 1), "{place:x?}");
-                        assert!(arrived(&record, words), "{place:x?}");
-                    }
+            for rt in [0, 1] {
+                for count in [0, 1, 17, 62] {
+                    assert_eq!(after(place, rt, count), (0, count + 1, 0), "{place:x?}");
                 }
             }
         }
@@ -462,13 +465,8 @@ mod made_by_hand {
     #[test]
     fn cleared_in_a_frame() {
         for place in ON {
-            for words in [0, 1, 7, 8] {
-                for (rt, count) in [(0, 62), (0, 63), (1, 0), (1, 62), (1, 63)] {
-                    let mut record = made(place, rt, count, words);
-                    cycles(&mut record, &[4]);
-                    assert_eq!((timeout(&record), record[at::FRAME]), ((0, 0), 1), "{place:x?}");
-                    assert!(arrived(&record, words), "{place:x?}");
-                }
+            for (rt, count) in [(0, 62), (0, 63), (1, 0), (1, 62), (1, 63)] {
+                assert_eq!(after(place, rt, count), (0, 0, 1), "{place:x?}");
             }
         }
     }

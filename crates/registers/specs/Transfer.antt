@@ -45,8 +45,8 @@ pub record LimitOf (m : Model) (r : Cycles) : Type 0 where
   pub limit : r ≡ limitOf m
   pub most : r .0 ≤ 2080768
 
--- The timeout at the end of a cycle. One that counts sets RT at the limit, where the count returns to zero; any other leaves RT
--- and makes the count zero.
+-- The timeout at the end of a cycle. A cycle that counts adds one to the count; at the limit it sets RT, and the count returns to
+-- zero. Any other cycle leaves RT and makes the count zero.
 unfoldable pub timeoutOf : Model → Bool → Timeout
 timeoutOf m frame =
     pick (idlesOf m frame)
