@@ -1,11 +1,12 @@
 //! The second program with one fault, to see that the harness finds it.
 
-use crate::device::{Device, Format, Queue};
+use crate::device::offset::{CR1, ICR, MIS, SR};
+use crate::device::{Device, Format, Queue, DATA, FSS};
 use crate::model::{Model, Second};
 use crate::record::{at, decode, encode, LENGTH};
 use std::ops::RangeInclusive;
 
-pub const FAULTS: u32 = 26;
+pub const FAULTS: u32 = 33;
 
 /// Those of a Microwire slave.
 pub const MICROWIRE_FAULTS: RangeInclusive<u32> = 15..=18;
@@ -13,8 +14,13 @@ pub const MICROWIRE_FAULTS: RangeInclusive<u32> = 15..=18;
 /// Those of the receive timeout as words arrive.
 pub const TIMEOUT_FAULTS: RangeInclusive<u32> = 19..=25;
 
+/// Those of a bit that is picked one place off.
+pub const BIT_FAULTS: RangeInclusive<u32> = 26..=32;
+
 /// Those that spoil single cycles of a run.
-const CYCLE_FAULTS: RangeInclusive<u32> = 15..=23;
+fn spoils_cycles(number: u32) -> bool {
+    matches!(number, 15..=23 | 26..=27)
+}
 
 /// Faults that show in bytes 12 to 23 alone, some only after damage.
 fn spoil_engine(number: u32, record: &mut [u8]) {
@@ -115,6 +121,69 @@ fn spoil_timeout(number: u32, before: &Device, pins: u8, after: &mut Device) {
     }
 }
 
+/// A 16-bit word whose top bit is the one below it.
+fn top_doubled(word: u16) -> u16 {
+    word & 0x7FFF | (word & 0x4000) << 1
+}
+
+/// RXD as FSS is.
+fn rxd_from_fss(pins: u8) -> u8 {
+    pins & !DATA | (pins & FSS) << 1
+}
+
+/// A bit of the word, or of the pins, is picked one place off in one cycle; both are kept as
+/// they were.
+fn spoil_bit(number: u32, before: &Device, pins: u8, after: &mut Device) {
+    match number {
+        // Only the first of sixteen bits that are sent.
+        26 if before.bits() == 16 => {
+            let words: Vec<u16> = before.tx.words().iter().copied().map(top_doubled).collect();
+            let tx = Queue::from_words(&words).unwrap_or_default();
+            let mut odd = Device { sending: top_doubled(before.sending), tx, ..before.clone() };
+            odd.cycle(pins);
+            *after = Device { sending: after.sending, tx: after.tx, ..odd };
+        }
+        27 => {
+            let mut odd = Device { pins: before.pins.map(rxd_from_fss), ..before.clone() };
+            odd.cycle(rxd_from_fss(pins));
+            *after = Device { pins: after.pins, ..odd };
+        }
+        _ => {}
+    }
+}
+
+/// MIS with RT let through by the bit of IMSC that RX has.
+fn mis_off(record: &[u8], word: u32) -> u32 {
+    word & !2 | u32::from(record[at::RT] & record[at::IMSC] >> 2) << 1
+}
+
+/// In an enabled device SOD may not change and MS may.
+fn write_cr1_off(record: &mut [u8], value: u32) -> u32 {
+    let held = enabled_device(record).map_or(value, |device| u32::from(device.cr1));
+    if value <= 15 && (held ^ value) & 8 != 0 {
+        return 5;
+    }
+    let refusal = Second.write(record, CR1, value & !4 | held & 4);
+    if refusal == 0 {
+        record[at::CR1] = value as u8;
+    }
+    refusal
+}
+
+/// A run to idle that goes on while RFF is up, not BSY.
+fn idle_off(record: &mut [u8], input: &[u8], output: &mut [u8]) -> (u64, u64) {
+    let refusal = Second.run(&mut record.to_vec(), input, &mut output.to_vec());
+    let mut count = 0;
+    for (pins, lines) in input.iter().zip(output) {
+        if refusal != 0 || Second.read(record, SR).1 & 8 == 0 {
+            break;
+        }
+        Second.run(record, &[*pins], std::slice::from_mut(lines));
+        count += 1;
+    }
+    (u64::from(refusal), count)
+}
+
 /// One cycle after the other, each with its fault.
 fn run_spoiled(number: u32, record: &mut [u8], input: &[u8], output: &mut [u8]) {
     for (pins, lines) in input.iter().zip(output) {
@@ -123,6 +192,7 @@ fn run_spoiled(number: u32, record: &mut [u8], input: &[u8], output: &mut [u8]) 
         if let (Some(before), Some(mut after)) = (before, enabled_device(record)) {
             spoil_microwire(number, &before, &mut after);
             spoil_timeout(number, &before, *pins, &mut after);
+            spoil_bit(number, &before, *pins, &mut after);
             *lines = after.lines;
             record.copy_from_slice(&encode(&after));
         }
@@ -149,13 +219,19 @@ impl Model for Faulty {
         match self.0 {
             0 if refusal == 8 => (8, 1),
             1 if offset == 0x1C => Second.read(record, 0x18),
+            28 if offset == MIS && refusal == 0 => (0, mis_off(record, word)),
             _ => (refusal, word),
         }
     }
 
     fn write(&self, record: &mut [u8], offset: u32, value: u32) -> u32 {
         let held = record.get(at::RX_COUNT).copied();
-        let refusal = Second.write(record, offset, value);
+        let refusal = match self.0 {
+            // The bit of ROR clears RT.
+            29 if offset == ICR && value <= 3 => Second.write(record, offset, 3 * (value & 1)),
+            30 if offset == CR1 => write_cr1_off(record, value),
+            _ => Second.write(record, offset, value),
+        };
         if self.0 == 2 && offset == 0x20 && refusal == 0 && held == Some(8) {
             record[127] = 1;
         }
@@ -166,7 +242,7 @@ impl Model for Faulty {
         let mut start = record.to_vec();
         let refusal = Second.run(record, input, output);
         match self.0 {
-            number if refusal == 0 && CYCLE_FAULTS.contains(&number) => {
+            number if refusal == 0 && spoils_cycles(number) => {
                 run_spoiled(number, &mut start, input, output);
                 record.copy_from_slice(&start);
             }
@@ -180,6 +256,9 @@ impl Model for Faulty {
     }
 
     fn run_to_idle(&self, record: &mut [u8], input: &[u8], output: &mut [u8]) -> (u64, u64) {
+        if self.0 == 31 {
+            return idle_off(record, input, output);
+        }
         let start = record.to_vec();
         let (refusal, count) = Second.run_to_idle(record, input, output);
         if self.0 == 24 {
@@ -197,6 +276,12 @@ impl Model for Faulty {
             return Second.pair_run(second, first, cycles.saturating_sub(1));
         }
         let start = [first.to_vec(), second.to_vec()];
+        // Without cycles the call only checks.
+        if self.0 == 32 && cycles > 0 && Second.pair_run(first, second, 0) == 0 {
+            // TXD of the last lines is LOW where it is driven, as nSSPOE is.
+            first[at::LINES] &= !DATA;
+            second[at::LINES] &= !DATA;
+        }
         let refusal = Second.pair_run(first, second, cycles);
         if self.0 == 25 {
             keep_timeout(&start[0], first);

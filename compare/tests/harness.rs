@@ -1,9 +1,10 @@
 //! The harness itself: it agrees with itself and finds faults.
 
 use compare::bench::Bench;
-use compare::cases::{run, Plan};
-use compare::fault::{Faulty, FAULTS, MICROWIRE_FAULTS, TIMEOUT_FAULTS};
+use compare::cases::{bits, run, Plan};
+use compare::fault::{Faulty, BIT_FAULTS, FAULTS, MICROWIRE_FAULTS, TIMEOUT_FAULTS};
 use compare::model::Second;
+use compare::random::Random;
 
 const PLAN: Plan = Plan { seed: 77, rounds: 16, limit: None };
 
@@ -34,5 +35,15 @@ fn these_faults_are_found_soon() {
             let plan = Plan { seed: seed << 32, rounds: 4, limit: None };
             assert!(run(&mut bench, &plan).is_err(), "fault {number}, seed {seed}");
         }
+    }
+}
+
+/// Nothing of it is left to chance, so one seed is enough.
+#[test]
+fn single_bits_find_their_faults_alone() {
+    for number in BIT_FAULTS {
+        let faulty = Faulty(number);
+        let mut bench = Bench::new(&Second, &faulty);
+        assert!(bits::one_by_one(&mut bench, &mut Random::new(0)).is_err(), "fault {number}");
     }
 }

@@ -1,6 +1,7 @@
-//! The cases of the comparison. Each draws all it does from its own seed.
+//! The cases of the comparison. Each draws all that it leaves to chance from its own seed.
 
 mod accesses;
+pub mod bits;
 mod buffers;
 mod damage;
 mod engine;
@@ -25,8 +26,11 @@ pub struct Plan {
 
 type Case = fn(&mut Bench, &mut Random) -> Step<()>;
 
+/// In the first round only, for a case that draws nothing.
+const ONCE: u64 = u64::MAX;
+
 /// Name, the case, and in which rounds it runs: each n-th.
-const CASES: [(&str, Case, u64); 21] = [
+const CASES: [(&str, Case, u64); 22] = [
     ("accesses", accesses::sequence, 1),
     ("offsets", accesses::every_offset, 16),
     ("master", engine::master, 1),
@@ -48,6 +52,7 @@ const CASES: [(&str, Case, u64); 21] = [
     ("late words", timeout::late_words, 1),
     ("late words in a pair", timeout::late_pair, 1),
     ("arrivals", timeout::arrivals, 1),
+    ("single bits", bits::one_by_one, ONCE),
 ];
 
 pub fn run(bench: &mut Bench, plan: &Plan) -> Step<u64> {

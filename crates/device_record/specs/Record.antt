@@ -7,7 +7,8 @@ use lib.ListN.{length, getD, replicate}
 use lib.Seq.{paste}
 use lib.Dec.{eqb}
 use mir.Val.{boolByte}
-use Rattle.registers.specs.Choose.{pick, bitAt}
+use Rattle.registers.specs.Choose.{pick}
+use Rattle.registers.specs.Bits.{bitAt}
 use Rattle.registers.specs.Time.{cycles, slots}
 use Rattle.registers.specs.Fields.{fieldsOf, restored}
 use Rattle.registers.specs.declared.fields.Fields.{Fields}

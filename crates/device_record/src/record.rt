@@ -74,11 +74,12 @@ fn words_at(bytes: &[u8], i: usize) -> [u16; 8]
 fn lines_from(byte: u8) -> Lines
     ensures { λ r. ⌜ r ≡ linesFrom byte ⌝ }
 {
+    let levels = byte as u32;
     Lines {
-        clk: byte / 1 % 2 == 1,
-        fss: byte / 2 % 2 == 1,
-        txd: byte / 4 % 2 == 1,
-        released: byte / 8 % 2 == 1,
+        clk: registers::bits::bit_at(levels, 0),
+        fss: registers::bits::bit_at(levels, 1),
+        txd: registers::bits::bit_at(levels, 2),
+        released: registers::bits::bit_at(levels, 3),
     }
 }
 

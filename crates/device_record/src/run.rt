@@ -6,10 +6,10 @@ ghost use Rattle.device_record.specs.Run.{inputsFit, stopsOn, RunUntil};
 use registers::access::Answer;
 use serial::Device;
 
-// The offset of SR, and the weight of BSY in it.
+// The offset of SR, and the place of BSY in it.
 const STATUS: u32 = 0x0C;
 
-const BUSY: u16 = 16;
+const BUSY: u32 = 4;
 
 // An input byte is at most this.
 const HIGHEST_INPUT: u8 = 7;
@@ -51,7 +51,7 @@ pub fn busy_device(d: Device) -> bool
     let Answer::Word(status) = answer else {
         return false;
     };
-    status / BUSY % 2 == 1
+    registers::bits::bit_at(status as u32, BUSY)
 }
 
 fn stops_on(stop: Stop, d: Device) -> bool

@@ -1,7 +1,8 @@
 -- Bits on the wire: most significant first.
 use Prim.Native.Nat.{ℕ, _+_, _-_, _*_, _%_, _^_}
 use mathlib.Core.Bool.{Bool}
-use Rattle.registers.specs.Choose.{pick, bitAt}
+use Rattle.registers.specs.Choose.{pick}
+use Rattle.registers.specs.Bits.{bitAt}
 
 -- Bit i of a word of `width` bits, counted from the most significant.
 unfoldable pub bitOf : ℕ → ℕ → ℕ → Bool

@@ -14,11 +14,7 @@ fn shift_of(width: u16, i: u16) -> u16
 pub fn bit_of(width: u16, word: u16, i: u16) -> bool
     ensures { λ r. ⌜ r ≡ bitOf width word i ⌝ }
 {
-    let shift = shift_of(width, i);
-    if shift < 16 {
-        return (word >> shift) % 2 == 1;
-    }
-    false
+    registers::bits::bit_at(word as u32, shift_of(width, i) as u32)
 }
 
 // The low bits of a word.

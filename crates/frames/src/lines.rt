@@ -26,10 +26,11 @@ pub struct Lines {
 pub fn pins_of(byte: u8) -> Pins
     ensures { λ r. ⌜ r ≡ pinsOf byte ⌝ }
 {
+    let levels = byte as u32;
     Pins {
-        clk: byte / 1 % 2 == 1,
-        fss: byte / 2 % 2 == 1,
-        rxd: byte / 4 % 2 == 1,
+        clk: registers::bits::bit_at(levels, 0),
+        fss: registers::bits::bit_at(levels, 1),
+        rxd: registers::bits::bit_at(levels, 2),
     }
 }
 

@@ -10,6 +10,7 @@
 //   frame            a cycle that ends with a frame in progress
 //   take             the oldest word to send is taken
 //   h, bits          h and b
+//   inspect W I      bit I of the word W
 use registers::Registers;
 use registers::access;
 use registers::access::Answer;
@@ -82,6 +83,10 @@ fn bits(r: Registers) -> Outcome {
     word(s.bits as u32, r)
 }
 
+fn inspect(r: Registers, w: u32, i: u32) -> Outcome {
+    word(registers::bits::bit_at(w, i) as u32, r)
+}
+
 fn set(r: Registers, offset: u32, value: u32) -> Registers {
     let active = settings::enabled(r);
     let out = access::write(r, active, offset, value);
@@ -139,6 +144,7 @@ pub(crate) fn run(r: Registers, letter: u8, first: u32, last: u32) -> Outcome {
         b't' => take(r),
         b'h' => divisor(r),
         b'b' => bits(r),
+        b'i' => inspect(r, first, last),
         _ => done(r),
     }
 }

@@ -6,7 +6,8 @@ use native.Mathlib.Omega.{arith}
 use native.Mathlib.Nat.{mod-eq-of-lt}
 use lib.Dec.{leb, eqb}
 use borrow.Author.Tests.{leb-false, eqb-true, eqb-false}
-use Rattle.registers.specs.Choose.{pick, bitAt, bitsDiffer}
+use Rattle.registers.specs.Choose.{pick}
+use Rattle.registers.specs.Bits.{bitAt, bitsDiffer}
 use Rattle.registers.proofs.Picks.{pick-yes, pick-no, pick-both, and-off, under-off, both-absurd}
 use Rattle.registers.specs.Refusals.{firstOf}
 use Rattle.registers.specs.Model.{Model}

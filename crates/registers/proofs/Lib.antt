@@ -1,3 +1,4 @@
+mod BitLaws
 mod Decoder
 mod Products
 pub mod Picks

@@ -10,7 +10,7 @@ use lib.ListN.{length, getD, length-append}
 use lib.Dec.{ltb, leb, eqb}
 use borrow.Author.Tests.{ltb-true, leb-true, eqb-true, leb-false, eqb-false, lt-ltb, le-leb, eq-eqb, ne-eqb}
 use Rattle.queue.specs.Fifo.{added, rest}
-use Rattle.registers.specs.Choose.{bitAt}
+use Rattle.registers.specs.Bits.{bitAt}
 use Rattle.registers.proofs.Picks.{pick-yes, pick-no, pick-both, and-left, and-right, and-both, or-right, under-elim, under-intro, not-elim, not-intro, both-absurd}
 use Rattle.registers.specs.Time.{cyclesOf}
 use Rattle.registers.specs.Model.{Model, resetRegisters}

@@ -6,7 +6,8 @@ use mathlib.Core.Bool.{Bool, not, _&&_, _||_}
 use lib.ListN.{length, getD}
 use lib.Dec.{leb, eqb}
 use Rattle.queue.specs.Fifo.{added, rest}
-use Rattle.registers.specs.Choose.{pick, bitAt, bitsDiffer}
+use Rattle.registers.specs.Choose.{pick}
+use Rattle.registers.specs.Bits.{bitAt, bitsDiffer}
 use Rattle.registers.specs.Time.{cycles}
 use Rattle.registers.specs.Refusals.{done, badOffset, reservedOffset, wrongAccess, extraBits, whileEnabled, notPermitted, queueFull, queueEmpty, firstOf, refusalOf, wordOf}
 use Rattle.registers.specs.Model.{Model, modelOf, withControl, withMasks, withTimeout, withRor, withTx, withRx}

@@ -1,13 +1,2 @@
--- What every definition of this crate branches and picks bits with.
-use Prim.Native.Nat.{ℕ, _/_, _%_, _^_}
-use mathlib.Core.Bool.{Bool, not}
-use lib.Dec.{eqb}
+-- What every definition of this crate branches with.
 pub use Rattle.queue.specs.Choose.{pick}
-
--- Bit k of a value is set.
-abbrev pub bitAt : ℕ → ℕ → Bool
-bitAt v k = eqb (v / 2 ^ k % 2) 1
-
--- Two values differ in bit k.
-abbrev pub bitsDiffer : ℕ → ℕ → ℕ → Bool
-bitsDiffer v w k = not (eqb (v / 2 ^ k % 2) (w / 2 ^ k % 2))

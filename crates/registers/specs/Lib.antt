@@ -1,4 +1,5 @@
 pub mod Choose
+pub mod Bits
 pub mod Time
 pub mod Refusals
 pub mod Model

@@ -3,7 +3,8 @@ use Prim.Native.Nat.{ℕ, _+_, _*_, _/_, _%_, _≤_}
 use mathlib.Core.Path.{_≡_}
 use mathlib.Core.Bool.{Bool, _&&_}
 use lib.Dec.{ltb, leb, eqb}
-use Rattle.registers.specs.Choose.{pick, bitAt}
+use Rattle.registers.specs.Choose.{pick}
+use Rattle.registers.specs.Bits.{bitAt}
 use Rattle.registers.specs.Time.{divisor}
 use Rattle.registers.specs.Model.{Model}
 use Rattle.registers.specs.declared.time.Divisor.{Divisor}

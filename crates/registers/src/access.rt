@@ -7,6 +7,7 @@ use crate::Control;
 use crate::Masks;
 use crate::Registers;
 use crate::Timeout;
+use crate::bits;
 use crate::offsets::Register;
 use crate::time::Cycles;
 
@@ -193,9 +194,9 @@ fn cr1_rule(r: Registers, active: bool, value: u32) -> u8
     ensures { λ n. ⌜ n ≡ cr1Rule (modelOf r) active value ⌝ }
 {
     let old = r.control.cr1 as u32;
-    let held = active & ((old / 4 % 2 != value / 4 % 2) | (old / 1 % 2 != value / 1 % 2));
+    let held = active & (bits::bits_differ(old, value, 2) | bits::bits_differ(old, value, 0));
     let good = crate::settings::permitted_of(r.control.cr0 as u32);
-    let unready = (value / 2 % 2 == 1) & (!good | (r.control.cpsr == 0));
+    let unready = bits::bit_at(value, 1) & (!good | (r.control.cpsr == 0));
     if held {
         return WHILE_ENABLED;
     }
@@ -278,7 +279,7 @@ fn cr1_written(r: Registers, value: u32) -> Registers
     };
     let timeout = Timeout {
         rt: r.timeout.rt,
-        count: kept_count(value / 2 % 2 == 1, r.timeout.count),
+        count: kept_count(bits::bit_at(value, 1), r.timeout.count),
     };
     let mut next = r;
     next.control = control;
@@ -304,12 +305,12 @@ fn cpsr_written(r: Registers, value: u32) -> Registers
 fn icr_written(r: Registers, value: u32) -> Registers
     ensures { λ n. ⌜ modelOf n ≡ icrWritten (modelOf r) value ⌝ }
 {
-    let keep = value / 2 % 2 != 1;
+    let keep = !bits::bit_at(value, 1);
     let timeout = Timeout {
         rt: r.timeout.rt & keep,
         count: kept_count(keep, r.timeout.count),
     };
-    let ror = r.ror & (value / 1 % 2 != 1);
+    let ror = r.ror & !bits::bit_at(value, 0);
     let mut next = r;
     next.timeout = timeout;
     next.ror = ror;

@@ -3,6 +3,7 @@ ghost use mathlib.Core.Path.{_≡_};
 ghost use Rattle.registers.specs.Model.{modelOf};
 ghost use Rattle.registers.specs.Flags.{ValueOf, busyOf, statusOf, rawOf, maskedOf, interruptWord};
 use crate::Registers;
+use crate::bits;
 
 // The four interrupts, raw or masked.
 pub struct Interrupts {
@@ -60,12 +61,12 @@ pub fn masked_of(r: Registers) -> Interrupts
     ensures { λ i. ⌜ i ≡ maskedOf (modelOf r) ⌝ }
 {
     let i = raw_of(r);
-    let m = r.masks.imsc;
+    let m = r.masks.imsc as u32;
     Interrupts {
-        tx: i.tx & (m / 8 % 2 == 1),
-        rx: i.rx & (m / 4 % 2 == 1),
-        rt: i.rt & (m / 2 % 2 == 1),
-        ror: i.ror & (m / 1 % 2 == 1),
+        tx: i.tx & bits::bit_at(m, 3),
+        rx: i.rx & bits::bit_at(m, 2),
+        rt: i.rt & bits::bit_at(m, 1),
+        ror: i.ror & bits::bit_at(m, 0),
     }
 }
 

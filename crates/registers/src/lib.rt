@@ -3,6 +3,8 @@
 ghost use mathlib.Core.Path.{_≡_};
 ghost use Rattle.registers.specs.Model.{modelOf, resetRegisters};
 
+// A bit of a word.
+pub mod bits;
 // Cycles, slots and h.
 pub mod time;
 // The register that an offset names.

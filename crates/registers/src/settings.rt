@@ -4,6 +4,7 @@ ghost use Rattle.registers.specs.Model.{modelOf};
 ghost use Rattle.registers.specs.Settings.{formatOf, permittedOf, DivisorOf, settingsOf, enabledOf, enabled};
 use crate::Control;
 use crate::Registers;
+use crate::bits;
 use crate::time::Divisor;
 
 // The frame format.
@@ -63,7 +64,7 @@ pub(crate) fn divisor_of(c: Control) -> Divisor
 pub(crate) fn enabled_of(c: Control) -> bool
     ensures { λ r. ⌜ r ≡ enabledOf c ⌝ }
 {
-    c.cr1 / 2 % 2 == 1
+    bits::bit_at(c.cr1 as u32, 1)
 }
 
 // SSE.
@@ -79,18 +80,20 @@ pub fn settings_of(r: Registers) -> Settings
     ensures { λ s. ⌜ s ≡ settingsOf (modelOf r .control) ⌝ }
 {
     let c = r.control;
+    let cr0 = c.cr0 as u32;
+    let cr1 = c.cr1 as u32;
     let format = format_of(c.cr0);
     let divisor = divisor_of(c);
     let on = enabled_of(c);
     Settings {
         format,
-        phase: c.cr0 / 128 % 2 == 1,
-        polarity: c.cr0 / 64 % 2 == 1,
+        phase: bits::bit_at(cr0, 7),
+        polarity: bits::bit_at(cr0, 6),
         bits: (c.cr0 % 16) as u8 + 1,
         divisor,
-        slave: c.cr1 / 4 % 2 == 1,
-        sod: c.cr1 / 8 % 2 == 1,
-        loopback: c.cr1 / 1 % 2 == 1,
+        slave: bits::bit_at(cr1, 2),
+        sod: bits::bit_at(cr1, 3),
+        loopback: bits::bit_at(cr1, 0),
         enabled: on,
     }
 }

@@ -8,7 +8,8 @@ use native.Mathlib.Nat.{mod-le}
 use lib.Dec.{ltb, leb, eqb}
 use borrow.Author.Tests.{ltb-true, leb-true, leb-false, eqb-true, lt-ltb, le-leb, not-false}
 use Rattle.registers.specs.Time.{slots}
-use Rattle.registers.specs.Choose.{pick, bitAt}
+use Rattle.registers.specs.Choose.{pick}
+use Rattle.registers.specs.Bits.{bitAt}
 use Rattle.registers.proofs.Picks.{pick-yes, pick-no, pick-both, and-left, and-right, and-both, and-off, not-elim}
 use Rattle.registers.specs.Model.{Model}
 use Rattle.registers.specs.Settings.{formatOf, bitsOf, divisorOf, enabledOf, settingsOf}

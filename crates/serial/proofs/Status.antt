@@ -1,11 +1,12 @@
 -- BSY in the word that a read of SR gives.
-use Prim.Native.Nat.{ℕ, _+_, _/_, _%_}
+use Prim.Native.Nat.{ℕ, _+_}
 use mathlib.Core.Path.{_≡_, refl, _∙_}
 use mathlib.Core.Bool.{Bool, true, false, not}
 use native.Mathlib.Omega.{arith}
 use lib.Dec.{ltb, leb, eqb}
 use lib.ListN.{length}
 use Rattle.registers.specs.Choose.{pick}
+use Rattle.registers.specs.Bits.{bitAt}
 use Rattle.registers.specs.Model.{Model}
 use Rattle.registers.specs.Offsets.{registerOf}
 use Rattle.registers.specs.Flags.{busyOf, statusOf}
@@ -16,7 +17,7 @@ use Rattle.serial.specs.Cycle.{DeviceModel}
 use Rattle.serial.specs.Access.{readAnswerOf}
 use Rattle.serial.specs.Busy.{busyDevice}
 
-bits-busy : (b f n t e : Bool) → eqb ((pick b 16 0 + pick f 8 0 + pick n 4 0 + pick t 2 0 + pick e 1 0) / 16 % 2) 1 ≡ b
+bits-busy : (b f n t e : Bool) → bitAt (pick b 16 0 + pick f 8 0 + pick n 4 0 + pick t 2 0 + pick e 1 0) 4 ≡ b
 bits-busy true true true true true = refl
 bits-busy true true true true false = refl
 bits-busy true true true false true = refl
@@ -50,7 +51,7 @@ bits-busy false false false true false = refl
 bits-busy false false false false true = refl
 bits-busy false false false false false = refl
 
-status-busy : (m : Model) (frame : Bool) → eqb (statusOf m frame / 16 % 2) 1 ≡ busyOf m frame
+status-busy : (m : Model) (frame : Bool) → bitAt (statusOf m frame) 4 ≡ busyOf m frame
 unfolding statusOf
 status-busy m frame = bits-busy (busyOf m frame) (leb 8 (length (m .rx))) (not (eqb (length (m .rx)) 0)) (ltb (length (m .tx)) 8) (eqb (length (m .tx)) 0)
 
@@ -60,7 +61,7 @@ unfolding readAnswerOf readAnswer registerOf
 status-answer d = refl
 
 module _ (d : DeviceModel) (a : Answer) (e : a ≡ readAnswerOf d 12) where
-  pub busy-word : (w : ℕ) → a ≡ Word w → eqb (w / 16 % 2) 1 ≡ busyDevice d
+  pub busy-word : (w : ℕ) → a ≡ Word w → bitAt w 4 ≡ busyDevice d
   unfolding busyDevice
   busy-word w h =
       let z : w ≡ statusOf (d .registers) (d .engine .frame) = cc (e ∙ status-answer d) in

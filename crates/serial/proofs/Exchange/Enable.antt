@@ -5,7 +5,7 @@ use mathlib.Core.Bool.{Bool, true, false, and-false}
 use native.Mathlib.Omega.{arith}
 use native.Mathlib.Nat.{mod-eq-of-lt, mod-lt, zero-lt-suc, div-eq-of-lt-le}
 use borrow.Author.Tests.{ne-eqb, lt-leb, eqb-false}
-use Rattle.registers.specs.Choose.{bitAt}
+use Rattle.registers.specs.Bits.{bitAt}
 use Rattle.registers.specs.Model.{Model}
 use Rattle.registers.specs.Offsets.{registerOf}
 use Rattle.registers.specs.Settings.{settingsOf, enabledOf, permittedOf, divisorOf, settingsBy}

@@ -5,7 +5,8 @@ use mathlib.Core.Bool.{Bool, true, false, not, _&&_}
 use mathlib.Core.List.{List, [], _∷_}
 use native.Mathlib.Omega.{arith}
 use lib.Dec.{eqb}
-use Rattle.registers.specs.Choose.{pick, bitAt}
+use Rattle.registers.specs.Choose.{pick}
+use Rattle.registers.specs.Bits.{bitAt}
 use Rattle.registers.proofs.Picks.{pick-both}
 use Rattle.registers.specs.Model.{Model}
 use Rattle.registers.specs.Offsets.{registerOf}

@@ -1,3 +1,4 @@
+use mathlib.Core.Path.{_∙_}
 use Rattle.serial.proofs.Status.{busy-word, busy-never-refused}
 use borrow.Author.Needs.{needs}
 use Rattle.device_record.proofs.run.busy_device.Statement.{statement}
@@ -15,8 +16,23 @@ enum-told c = search needs
 returns : tie.Need-returns
 returns c = absurd (busy-never-refused _ _ (c .before .before .read .ensures .answer) _ (c .enum-told .given .1))
 
+cast-bit-at : tie.Need-cast-bit-at
+cast-bit-at c = search needs
+
+bit-at-requires : tie.Need-bit-at-requires
+bit-at-requires c κs = search needs
+
 returns-2 : tie.Need-returns-2
-returns-2 c = busy-word _ _ (c .before .before .before .read .ensures .answer) _ (c .before .answer .given .1)
+returns-2 c = c .bit-at .ensures ∙ busy-word _ _ (c .before .before .before .before .read .ensures .answer) _ (c .before .before .answer .given .1)
 
 pub busy-device-spec : {M : Type 1} → statement M
-busy-device-spec = tie.close (tie.spec read-requires enum-known-answer enum-told returns returns-2)
+busy-device-spec =
+    tie.close
+    (tie.spec
+    read-requires
+    enum-known-answer
+    enum-told
+    returns
+    cast-bit-at
+    bit-at-requires
+    returns-2)
