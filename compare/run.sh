@@ -13,7 +13,8 @@ set -eu
 SEED=225eed
 ROUNDS=1000
 SECONDS_AT_MOST=150
-CALLS_AT_LEAST=100000
+# Far more than the cases make that leave nothing to chance.
+CALLS_AT_LEAST=1000000
 
 if [ $# -ne 0 ]; then
     echo "usage: run.sh" >&2
