@@ -9,7 +9,7 @@ LIBRARY := $(PL022_ARCHIVE)
 CFLAGS = -std=c11 -D_POSIX_C_SOURCE=200809L -Wall -Wextra -Wpedantic -Wconversion -Wshadow -Werror -O2 -Iinclude
 
 # The first number goes up with a change of calls or record that old programs do not survive, the second with each change request.
-VERSION = 1.3.0
+VERSION = 1.4.0
 SONAME = libpl022.so.$(firstword $(subst ., ,$(VERSION)))
 
 PREFIX = /usr/local
@@ -81,7 +81,7 @@ endif
 export BUILD
 bench compare: export PL022_ARCHIVE := $(LIBRARY)
 
-# The library beside the second program and memset, timed.
+# The library beside the second program, memset and memcpy, timed.
 bench: $(LIBRARY)
 	compare/speed.sh
 

@@ -1,6 +1,7 @@
 #!/bin/sh
 # Tests the second program, then compares the proved library with it call by call.
-# Ends with one line of counts; any difference gives a status other than 0.
+# Ends with two lines of counts, of texts and of devices; any difference gives a status other
+# than 0, and so do too few calls on devices or random texts.
 # usage: run.sh
 #
 #   PL022_ARCHIVE     the library, a file libpl022.a that must be there;
@@ -15,6 +16,8 @@ ROUNDS=1000
 SECONDS_AT_MOST=150
 # Far more than the cases make that leave nothing to chance.
 CALLS_AT_LEAST=1000000
+# All that the rounds make, in about a tenth of the time.
+TEXTS_AT_LEAST=500000
 
 if [ $# -ne 0 ]; then
     echo "usage: run.sh" >&2
@@ -47,7 +50,7 @@ fi
 status=0
 timeout $((SECONDS_AT_MOST + 60)) "$compare" \
     --seed "$SEED" --rounds "$ROUNDS" --seconds "$SECONDS_AT_MOST" \
-    --least "$CALLS_AT_LEAST" || status=$?
+    --least "$CALLS_AT_LEAST" --least-texts "$TEXTS_AT_LEAST" || status=$?
 if [ "$status" -eq 124 ]; then
     echo "run: the comparison did not end; compare --trace FILE shows the call" >&2
 fi

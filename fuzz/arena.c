@@ -87,7 +87,10 @@ static uint8_t *place(const struct loan *loan, uint8_t *stack)
     case PLACE_GUARD_BEFORE:
         return regions[loan->role].start;
     case PLACE_BETWEEN_CANARIES:
-        return regions[loan->role].start + draw_between(1, CANARY);
+        /* Numbers stand where numbers may stand. */
+        return regions[loan->role].start
+             + (loan->role == ROLE_PLACES ? PLACE_SIZE * draw_between(1, CANARY / PLACE_SIZE)
+                                          : draw_between(1, CANARY));
     case PLACE_HEAP:
         return heap(loan->length);
     case PLACE_STACK:

@@ -7,27 +7,34 @@
 
 #define ROLE(role) (1U << (role))
 #define LINES (ROLE(ROLE_INPUT) | ROLE(ROLE_OUTPUT))
+#define TEXTS (ROLE(ROLE_LINES) | ROLE(ROLE_PLACES) | ROLE(ROLE_TEXT))
 #define NUMBERS(low, high) ((1U << ((high) + 1)) - (1U << (low)))
 #define NUMBER(n) NUMBERS(n, n)
 
 static const struct {
     const char *name;
     unsigned roles;
+    unsigned fills;
     unsigned refusals;
 } facts[CALLS] = {
-    [CALL_RESET] = {"reset", ROLE(ROLE_RECORD), NUMBER(PL022_DONE) | NUMBER(PL022_WRONG_LENGTH)},
-    [CALL_READ] = {"read", ROLE(ROLE_RECORD),
+    [CALL_RESET] = {"reset", ROLE(ROLE_RECORD), 0, NUMBER(PL022_DONE) | NUMBER(PL022_WRONG_LENGTH)},
+    [CALL_READ] = {"read", ROLE(ROLE_RECORD), 0,
                    NUMBERS(PL022_DONE, PL022_WRONG_ACCESS)
                        | NUMBERS(PL022_QUEUE_EMPTY, PL022_WRONG_LENGTH)},
-    [CALL_WRITE] = {"write", ROLE(ROLE_RECORD),
+    [CALL_WRITE] = {"write", ROLE(ROLE_RECORD), 0,
                     NUMBERS(PL022_DONE, PL022_QUEUE_FULL)
                         | NUMBERS(PL022_UNSOUND, PL022_WRONG_LENGTH)},
-    [CALL_RUN] = {"run", ROLE(ROLE_RECORD) | LINES,
+    [CALL_RUN] = {"run", ROLE(ROLE_RECORD) | LINES, ROLE(ROLE_OUTPUT),
                   NUMBER(PL022_DONE) | NUMBERS(PL022_UNSOUND, PL022_BAD_INPUT)},
-    [CALL_RUN_TO_IDLE] = {"run_to_idle", ROLE(ROLE_RECORD) | LINES,
+    [CALL_RUN_TO_IDLE] = {"run_to_idle", ROLE(ROLE_RECORD) | LINES, ROLE(ROLE_OUTPUT),
                           NUMBER(PL022_DONE) | NUMBERS(PL022_UNSOUND, PL022_BAD_INPUT)},
-    [CALL_PAIR_RUN] = {"pair_run", ROLE(ROLE_RECORD) | ROLE(ROLE_SECOND),
+    [CALL_PAIR_RUN] = {"pair_run", ROLE(ROLE_RECORD) | ROLE(ROLE_SECOND), 0,
                        NUMBER(PL022_DONE) | NUMBERS(PL022_UNSOUND, PL022_WRONG_LENGTH)},
+    [CALL_WRITE_TEXT] = {"write_text", TEXTS, ROLE(ROLE_TEXT),
+                         NUMBER(PL022_DONE) | NUMBERS(PL022_TOO_MANY_CYCLES, PL022_TOO_SHORT)},
+    [CALL_READ_TEXT] = {"read_text", TEXTS, ROLE(ROLE_LINES) | ROLE(ROLE_PLACES),
+                        NUMBER(PL022_DONE) | NUMBER(PL022_TOO_MANY_CYCLES)
+                            | NUMBERS(PL022_TOO_SHORT, PL022_NO_LINE_FEED)},
 };
 
 const char *call_name(enum call call)
@@ -37,13 +44,20 @@ const char *call_name(enum call call)
 
 const char *role_name(enum role role)
 {
-    static const char *const names[ROLES] = {"record", "second", "input", "output"};
+    static const char *const names[ROLES] = {
+        "record", "second", "input", "output", "lines", "places", "text"
+    };
     return names[role];
 }
 
 bool call_lends(enum call call, enum role role)
 {
     return (facts[call].roles & ROLE(role)) != 0;
+}
+
+bool call_fills(enum call call, enum role role)
+{
+    return (facts[call].fills & ROLE(role)) != 0;
 }
 
 bool call_may_answer(enum call call, uint64_t refusal)
@@ -56,8 +70,30 @@ bool call_runs_lines(enum call call)
     return call_lends(call, ROLE_INPUT);
 }
 
-static void pass(const struct request *request, const struct loan loans[ROLES],
-                 struct outcome *outcome)
+static void pass_text(const struct request *request, const struct loan loans[ROLES],
+                      struct outcome *outcome)
+{
+    const struct loan *lines = &loans[ROLE_LINES];
+    const struct loan *text = &loans[ROLE_TEXT];
+    uint32_t *places = (uint32_t *)(void *)loans[ROLE_PLACES].bytes;
+    size_t count = loans[ROLE_PLACES].length / PLACE_SIZE;
+
+    if (request->call == CALL_WRITE_TEXT) {
+        struct pl022_count written = pl022_write_text(lines->bytes, lines->length, places, count,
+                                                      text->bytes, text->length);
+        outcome->refusal = written.refusal;
+        outcome->result = written.count;
+    } else {
+        struct pl022_text read = pl022_read_text(text->bytes, text->length,
+                                                 lines->bytes, lines->length, places, count);
+        outcome->refusal = read.refusal;
+        outcome->result = read.cycles;
+        outcome->starts = read.starts;
+    }
+}
+
+static void pass_record(const struct request *request, const struct loan loans[ROLES],
+                        struct outcome *outcome)
 {
     const struct loan *record = &loans[ROLE_RECORD];
     const struct loan *second = &loans[ROLE_SECOND];
@@ -95,7 +131,7 @@ static void pass(const struct request *request, const struct loan loans[ROLES],
 
 void call_make(const struct request *request, struct outcome *outcome)
 {
-    uint8_t stack[ROLES][STACK_LIMIT];
+    _Alignas(uint32_t) uint8_t stack[ROLES][STACK_LIMIT];
     struct loan loans[ROLES];
 
     memset(loans, 0, sizeof loans);
@@ -105,7 +141,8 @@ void call_make(const struct request *request, struct outcome *outcome)
             arena_lend(&loans[role], role, &request->lent[role], stack[role]);
         }
     }
-    pass(request, loans, outcome);
+    outcome->starts = 0;
+    (call_lends(request->call, ROLE_TEXT) ? pass_text : pass_record)(request, loans, outcome);
     for (unsigned role = 0; role < ROLES; role++) {
         bytes_set(&outcome->after[role], loans[role].bytes, loans[role].length);
     }
@@ -116,6 +153,29 @@ void call_make(const struct request *request, struct outcome *outcome)
             arena_take_back(&loans[role]);
         }
     }
+}
+
+size_t call_wrote(const struct request *request, const struct outcome *outcome, enum role role)
+{
+    if (!call_fills(request->call, role)) {
+        return 0;
+    }
+    if (request->call == CALL_RUN) {
+        return request->lent[ROLE_INPUT].length;
+    }
+    return role == ROLE_PLACES ? (size_t)outcome->starts * PLACE_SIZE : (size_t)outcome->result;
+}
+
+uint32_t place_get(const struct bytes *places, size_t n)
+{
+    uint32_t place;
+    memcpy(&place, places->data + n * PLACE_SIZE, PLACE_SIZE);
+    return place;
+}
+
+void place_set(struct bytes *places, size_t n, uint32_t place)
+{
+    memcpy(places->data + n * PLACE_SIZE, &place, PLACE_SIZE);
 }
 
 void bytes_set(struct bytes *bytes, const uint8_t *data, size_t length)
@@ -138,6 +198,7 @@ void request_copy(struct request *to, const struct request *from)
     to->offset = from->offset;
     to->value = from->value;
     to->cycles = from->cycles;
+    to->due = from->due;
     to->served_before = from->served_before;
     for (unsigned role = 0; role < ROLES; role++) {
         if (call_lends(from->call, role)) {

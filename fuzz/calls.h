@@ -10,16 +10,37 @@
 
 #include "pl022.h"
 
-enum call { CALL_RESET, CALL_READ, CALL_WRITE, CALL_RUN, CALL_RUN_TO_IDLE, CALL_PAIR_RUN, CALLS };
+enum call {
+    CALL_RESET, CALL_READ, CALL_WRITE, CALL_RUN, CALL_RUN_TO_IDLE, CALL_PAIR_RUN,
+    CALL_WRITE_TEXT, CALL_READ_TEXT,
+    CALLS
+};
 
-/* The buffers that a call may be lent. */
-enum role { ROLE_RECORD, ROLE_SECOND, ROLE_INPUT, ROLE_OUTPUT, ROLES };
+/* The buffers that a call may be lent. Places are numbers, those of a reading its line starts. */
+enum role {
+    ROLE_RECORD, ROLE_SECOND, ROLE_INPUT, ROLE_OUTPUT, ROLE_LINES, ROLE_PLACES, ROLE_TEXT,
+    ROLES
+};
 
-enum { LENT_LIMIT = 12288, REFUSALS = PL022_BAD_INPUT + 1 };
+enum { LENT_LIMIT = 20480, REFUSALS = PL022_NO_LINE_FEED + 1 };
+
+/* A place as it lies in the bytes that are lent. */
+enum { PLACE_SIZE = sizeof(uint32_t) };
 
 struct bytes {
     size_t length;
     uint8_t data[LENT_LIMIT];
+};
+
+/*
+ * The answer that a text was made for, if the buffers for its cycles and line starts are
+ * long enough.
+ */
+struct due {
+    bool known;
+    uint64_t refusal;
+    size_t cycles;
+    size_t starts;
 };
 
 struct request {
@@ -27,21 +48,29 @@ struct request {
     uint32_t offset;
     uint32_t value;
     uint64_t cycles;
+    struct due due; /* of a reading */
     /* Every lent record was served once, and only calls have changed it since. */
     bool served_before;
     struct bytes lent[ROLES];
 };
 
-/* result is the word of a read, the count of a run to idle, and 0 for the others. */
+/*
+ * result is the word of a read, the count of a run to idle or of a written text, the cycles of
+ * a text that was read, and 0 for the others; starts is 0 for all but the last.
+ */
 struct outcome {
     uint64_t refusal;
     uint64_t result;
+    uint64_t starts;
     struct bytes after[ROLES];
 };
 
 const char *call_name(enum call call);
 const char *role_name(enum role role);
 bool call_lends(enum call call, enum role role);
+
+/* Whether the call writes into the buffer, which is no record. */
+bool call_fills(enum call call, enum role role);
 
 /* Whether the header lists this refusal number for the call. */
 bool call_may_answer(enum call call, uint64_t refusal);
@@ -52,8 +81,15 @@ bool call_runs_lines(enum call call);
 /* Makes the call on buffers placed at random; fails if a byte around them changed. */
 void call_make(const struct request *request, struct outcome *outcome);
 
+/* How many bytes a done call wrote into a buffer that it fills; 0 for others. */
+size_t call_wrote(const struct request *request, const struct outcome *outcome, enum role role);
+
 void bytes_set(struct bytes *bytes, const uint8_t *data, size_t length);
 bool bytes_equal(const struct bytes *one, const struct bytes *other);
+
+/* Number n among the places. */
+uint32_t place_get(const struct bytes *places, size_t n);
+void place_set(struct bytes *places, size_t n, uint32_t place);
 
 /* Copies only what is lent; a request is too large to be copied whole each time. */
 void request_copy(struct request *to, const struct request *from);

@@ -15,6 +15,10 @@ uint32_t __real_pl022_run(uint8_t *, size_t, const uint8_t *, size_t, uint8_t *,
 struct pl022_count __real_pl022_run_to_idle(uint8_t *, size_t, const uint8_t *, size_t,
                                             uint8_t *, size_t);
 uint32_t __real_pl022_pair_run(uint8_t *, size_t, uint8_t *, size_t, uint64_t);
+struct pl022_count __real_pl022_write_text(const uint8_t *, size_t, const uint32_t *, size_t,
+                                           uint8_t *, size_t);
+struct pl022_text __real_pl022_read_text(const uint8_t *, size_t, uint8_t *, size_t,
+                                         uint32_t *, size_t);
 
 /* faults.sh says them in words, in this order. */
 enum {
@@ -29,6 +33,12 @@ enum {
     IDLE_WRITES_PAST_COUNT, IDLE_COUNT_WITH_REFUSAL, IDLE_COUNT_LESS, IDLE_LATE,
     PAIR_WRITES_BEHIND, PAIR_ONE_MORE, PAIR_CYCLES_MATTER, PAIR_CHANGES_ON_REFUSAL,
     PAIR_SERVES_UNSOUND,
+    TEXT_WRITES_PAST_COUNT, TEXT_WRITES_BEHIND, TEXT_COUNT_WITH_REFUSAL, TEXT_COUNT_LESS,
+    TEXT_LOWER_CASE, TEXT_OTHER_LINE, TEXT_LIMIT_LESS, TEXT_LOOKS_BEHIND_PLACES,
+    TEXT_SWAPS_14_15, TEXT_SWAPS_15_16, TEXT_TAKES_EQUAL_PLACES, TEXT_CHANGES_ON_REFUSAL,
+    LINES_WRITES_PAST_COUNT, LINES_STARTS_WITH_REFUSAL, LINES_STARTS_LESS, LINES_OTHER_START,
+    LINES_TAKES_LOWER_CASE, LINES_TAKES_CR, LINES_TAKES_NO_LINE_FEED, LINES_BUFFERS_FIRST,
+    LINES_LOOKS_AT_ALL, LINES_LOOKS_BEHIND, LINES_CHANGES_ON_REFUSAL, LINES_CUTS_LENGTH,
     FAULTS
 };
 
@@ -230,4 +240,126 @@ uint32_t __wrap_pl022_pair_run(uint8_t *first, size_t first_len,
         return PL022_DONE;
     }
     return refusal;
+}
+
+/* What goes wrong behind a text that was written. */
+static void spoil_text(uint8_t *text, size_t text_len, struct pl022_count *answer)
+{
+    size_t count = (size_t)answer->count;
+
+    if (due(TEXT_WRITES_PAST_COUNT, count < text_len)) {
+        text[count] ^= 1;
+    }
+    if (due(TEXT_WRITES_BEHIND, true)) {
+        text[text_len] = 0;
+    }
+    if (due(TEXT_COUNT_LESS, count > 0)) {
+        answer->count--;
+    }
+    if (due(TEXT_LOWER_CASE, count > 0 && text[0] >= 'A')) {
+        text[0] |= 0x20;
+    }
+    if (due(TEXT_OTHER_LINE, count > 3 && text[1] == '\n' && text[2] != '\n' && text[3] != '\n')) {
+        text[1] = text[2];
+        text[2] = '\n';
+    }
+}
+
+struct pl022_count __wrap_pl022_write_text(const uint8_t *lines, size_t lines_len,
+                                           const uint32_t *places, size_t places_len,
+                                           uint8_t *text, size_t text_len)
+{
+    if (due(TEXT_LIMIT_LESS, lines_len == PL022_TEXT_CYCLES)) {
+        return (struct pl022_count){PL022_TOO_MANY_CYCLES, 0};
+    }
+    if (due(TEXT_LOOKS_BEHIND_PLACES, true)) {
+        look((const uint8_t *)(places + places_len));
+    }
+    struct pl022_count answer = __real_pl022_write_text(lines, lines_len, places, places_len,
+                                                        text, text_len);
+    if (answer.refusal == PL022_DONE) {
+        spoil_text(text, text_len, &answer);
+    }
+    if (due(TEXT_COUNT_WITH_REFUSAL, answer.refusal != PL022_DONE)) {
+        answer.count = 1;
+    }
+    if (due(TEXT_SWAPS_14_15, answer.refusal == PL022_BAD_CYCLE && places_len > 0
+            && places[places_len - 1] >= lines_len)) {
+        answer.refusal = PL022_BAD_PLACES;
+    }
+    if (due(TEXT_SWAPS_15_16, answer.refusal == PL022_BAD_PLACES && text_len < lines_len)) {
+        answer.refusal = PL022_TOO_SHORT;
+    }
+    if (due(TEXT_TAKES_EQUAL_PLACES, answer.refusal == PL022_BAD_PLACES && places_len > 1
+            && places[places_len - 1] == places[places_len - 2] && text_len >= lines_len)) {
+        return (struct pl022_count){PL022_DONE, 0};
+    }
+    if (due(TEXT_CHANGES_ON_REFUSAL, answer.refusal == PL022_TOO_SHORT && text_len > 0)) {
+        text[0] ^= 1;
+    }
+    return answer;
+}
+
+/* What goes wrong behind a text that was read. */
+static void spoil_lines(uint8_t *lines, size_t lines_len, uint32_t *starts,
+                        struct pl022_text *answer)
+{
+    if (due(LINES_WRITES_PAST_COUNT, answer->cycles < lines_len)) {
+        lines[answer->cycles] ^= 1;
+    }
+    if (due(LINES_STARTS_LESS, answer->starts > 0)) {
+        answer->starts--;
+    }
+    if (due(LINES_OTHER_START, answer->starts > 1 && starts[1] > 1)) {
+        starts[1]--;
+    }
+}
+
+/* Whether the character that decided lies between two others. */
+static bool decided_by(const struct pl022_text *answer, const uint8_t *text, size_t text_len,
+                       uint8_t low, uint8_t high)
+{
+    for (size_t n = 0; answer->refusal == PL022_BAD_CHARACTER && n < text_len; n++) {
+        bool digit = (text[n] >= '0' && text[n] <= '9') || (text[n] >= 'A' && text[n] <= 'F');
+        if (!digit && text[n] != '\n') {
+            return text[n] >= low && text[n] <= high;
+        }
+    }
+    return false;
+}
+
+struct pl022_text __wrap_pl022_read_text(const uint8_t *text, size_t text_len,
+                                         uint8_t *lines, size_t lines_len,
+                                         uint32_t *starts, size_t starts_len)
+{
+    if (due(LINES_LOOKS_BEHIND, true)) {
+        look(text + text_len);
+    }
+    if (chosen(LINES_CUTS_LENGTH)) {
+        text_len &= UINT32_MAX;
+    }
+    struct pl022_text answer = __real_pl022_read_text(text, text_len, lines, lines_len,
+                                                      starts, starts_len);
+    uint64_t number = answer.refusal;
+    if (number == PL022_DONE) {
+        spoil_lines(lines, lines_len, starts, &answer);
+    }
+    if (due(LINES_STARTS_WITH_REFUSAL, number != PL022_DONE)) {
+        answer.starts = 1;
+    }
+    if (due(LINES_TAKES_LOWER_CASE, decided_by(&answer, text, text_len, 'a', 'f'))
+        || due(LINES_TAKES_CR, decided_by(&answer, text, text_len, '\r', '\r'))
+        || due(LINES_TAKES_NO_LINE_FEED, number == PL022_NO_LINE_FEED)) {
+        answer.refusal = PL022_DONE;
+    }
+    if (due(LINES_BUFFERS_FIRST, number == PL022_BAD_CHARACTER && lines_len + starts_len < text_len)) {
+        answer.refusal = PL022_TOO_SHORT;
+    }
+    if (due(LINES_LOOKS_AT_ALL, number == PL022_EMPTY_LINE && text[text_len - 1] != '\n')) {
+        answer.refusal = PL022_NO_LINE_FEED;
+    }
+    if (due(LINES_CHANGES_ON_REFUSAL, number == PL022_TOO_SHORT && lines_len > 0)) {
+        lines[0] ^= 1;
+    }
+    return answer;
 }

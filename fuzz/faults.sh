@@ -11,7 +11,8 @@ cc -std=c11 -Wall -Wextra -Wpedantic -Wconversion -Wshadow -Werror -g -O1 -Iincl
     -c -o "$built/faults.o" fuzz/faults.c
 fuzz/build.sh "$built/with-faults" "$built/faults.o" \
     -Wl,--wrap=pl022_reset,--wrap=pl022_read,--wrap=pl022_write \
-    -Wl,--wrap=pl022_run,--wrap=pl022_run_to_idle,--wrap=pl022_pair_run
+    -Wl,--wrap=pl022_run,--wrap=pl022_run_to_idle,--wrap=pl022_pair_run \
+    -Wl,--wrap=pl022_write_text,--wrap=pl022_read_text
 
 number=0
 missed=0
@@ -63,6 +64,30 @@ pair run makes one cycle too many
 pair run depends on the number of cycles
 pair run changes a record though refused
 pair run serves an unsound record
+write text writes past its count
+write text writes one byte behind the text
+write text gives a count with a refusal
+write text gives a count one too low
+write text writes a lower-case digit
+write text ends a line late
+write text refuses 4,096 cycles
+write text looks at the place behind the last
+write text answers 15 where 14 is due
+write text answers 16 where 15 is due
+write text takes equal places
+write text changes the text though refused
+read text writes past its count
+read text gives starts with a refusal
+read text gives one start too few
+read text gives another line start
+read text takes a lower-case digit
+read text takes a carriage return
+read text takes a text without last line feed
+read text looks at the buffers first
+read text looks past the place that decides
+read text looks at the byte behind the text
+read text changes the lines though refused
+read text cuts the length to 32 bits
 END
 echo "faults: $number tried, $missed missed"
 [ "$missed" -eq 0 ]

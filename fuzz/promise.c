@@ -3,6 +3,7 @@
 #include <string.h>
 
 #include "arena.h"
+#include "promise_text.h"
 #include "record.h"
 #include "report.h"
 #include "tally.h"
@@ -134,10 +135,13 @@ static uint32_t refusal_by_lines(const struct request *request)
 }
 
 /* The number that the header's table gives, in the table's order. */
-static uint32_t expected_refusal(const struct request *request)
+static uint64_t expected_refusal(const struct request *request, const struct outcome *outcome)
 {
     const uint8_t *record = request->lent[ROLE_RECORD].data;
 
+    if (call_lends(request->call, ROLE_TEXT)) {
+        return text_expected_refusal(request, outcome);
+    }
     if (!has_length(request, ROLE_RECORD) || !has_length(request, ROLE_SECOND)) {
         return PL022_WRONG_LENGTH;
     }
@@ -152,11 +156,6 @@ static uint32_t expected_refusal(const struct request *request)
          : request->call == CALL_WRITE ? write_refusal(request, record) : PL022_DONE;
 }
 
-size_t cycles_written(const struct request *request, const struct outcome *outcome)
-{
-    return request->call == CALL_RUN ? request->lent[ROLE_INPUT].length : (size_t)outcome->result;
-}
-
 static void check_unchanged(const struct request *request, const struct outcome *outcome,
                             enum role role, const char *what)
 {
@@ -166,7 +165,8 @@ static void check_unchanged(const struct request *request, const struct outcome 
 
 static void check_refused(const struct request *request, const struct outcome *outcome)
 {
-    report_unless(outcome->result == 0, "a word or count came with a refusal");
+    report_unless(outcome->result == 0 && outcome->starts == 0,
+                  "a word or count came with a refusal");
     for (unsigned role = 0; role < ROLES; role++) {
         check_unchanged(request, outcome, role, "a refused call changed a lent buffer");
     }
@@ -209,19 +209,30 @@ static void check_history(const struct request *request, const struct outcome *o
     report_unless(after[PL022_RECORD_LINES] == lines, "the record keeps other lines than it put out");
 }
 
+/* Of the buffers that are no records a call changes only what it says it wrote. */
+static void check_rest(const struct request *request, const struct outcome *outcome)
+{
+    for (unsigned role = ROLE_INPUT; role < ROLES; role++) {
+        const struct bytes *before = &request->lent[role];
+        const struct bytes *after = &outcome->after[role];
+        size_t wrote = call_wrote(request, outcome, role);
+        if (!call_lends(request->call, role)) {
+            continue;
+        }
+        report_unless(wrote <= before->length, "the count passes a lent buffer");
+        report_unless(memcmp(after->data + wrote, before->data + wrote, after->length - wrote) == 0,
+                      "a byte changed that the call does not count");
+    }
+}
+
 static void check_run(const struct request *request, const struct outcome *outcome)
 {
-    const struct bytes *before = &request->lent[ROLE_OUTPUT];
     const struct bytes *after = &outcome->after[ROLE_OUTPUT];
-    size_t cycles = cycles_written(request, outcome);
+    size_t cycles = call_wrote(request, outcome, ROLE_OUTPUT);
 
-    report_unless(cycles <= before->length, "the count passes the input's length");
     for (size_t i = 0; i < cycles; i++) {
         report_unless(after->data[i] <= PL022_OUTPUT_MASK, "an output byte is above 15");
     }
-    report_unless(memcmp(after->data + cycles, before->data + cycles, after->length - cycles) == 0,
-                  "an output byte changed from the count on");
-    check_unchanged(request, outcome, ROLE_INPUT, "the input changed");
     check_history(request, outcome, cycles);
 }
 
@@ -254,6 +265,7 @@ static void check_done(const struct request *request, const struct outcome *outc
                       || library_serves(outcome->after[role].data),
                       "a done call left an unsound record");
     }
+    check_rest(request, outcome);
     switch (request->call) {
     case CALL_RESET:
         check_reset(outcome);
@@ -270,6 +282,12 @@ static void check_done(const struct request *request, const struct outcome *outc
     case CALL_RUN_TO_IDLE:
         check_run_to_idle(request, outcome);
         break;
+    case CALL_WRITE_TEXT:
+        text_check_written(request, outcome);
+        break;
+    case CALL_READ_TEXT:
+        text_check_read(request, outcome);
+        break;
     default:
         break;
     }
@@ -285,7 +303,7 @@ void judge(const struct request *request, struct outcome *outcome)
     if (outcome->refusal != PL022_DONE) {
         check_refused(request, outcome);
     }
-    report_unless(outcome->refusal == expected_refusal(request),
+    report_unless(outcome->refusal == expected_refusal(request, outcome),
                   "the header's table gives another refusal number");
     if (outcome->refusal == PL022_DONE) {
         check_done(request, outcome);
@@ -314,5 +332,6 @@ void judge_wide_lengths(void)
     for (size_t i = 0; i < PL022_RECORD_LENGTH; i++) {
         report_unless(bytes[i] == 0, "a call refused for a wide length changed a buffer");
     }
+    text_judge_wide_lengths(bytes, wide);
 #endif
 }

@@ -12,9 +12,6 @@ void judge(const struct request *request, struct outcome *outcome);
 /* Whether the library serves a record, asked by a read that is always possible. */
 bool library_serves(const uint8_t *record);
 
-/* The output bytes that a done call wrote. */
-size_t cycles_written(const struct request *request, const struct outcome *outcome);
-
 /* Calls that agree modulo 2 to the power of 32 in a length must not be confused. */
 void judge_wide_lengths(void);
 

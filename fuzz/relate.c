@@ -33,21 +33,50 @@ static bool same_records(const struct request *request, const struct outcome *le
             || bytes_equal(&left->after[ROLE_SECOND], &right->after[ROLE_SECOND]));
 }
 
-/* The same call elsewhere in memory. The output buffer's old bytes may not matter. */
+/* What a done call wrote into the buffers that it fills. */
+static bool same_written(const struct request *request, const struct outcome *left,
+                         const struct outcome *right)
+{
+    for (unsigned role = 0; role < ROLES; role++) {
+        size_t wrote = right->refusal == PL022_DONE ? call_wrote(request, right, role) : 0;
+        if (memcmp(left->after[role].data, right->after[role].data, wrote) != 0) {
+            return false;
+        }
+    }
+    return true;
+}
+
+/* The same call elsewhere in memory. The old bytes of the buffers it fills may not matter. */
 static void repeat(const struct request *request, const struct outcome *outcome)
 {
-    size_t written = 0;
-
     request_copy(&part, request);
-    if (call_runs_lines(request->call)) {
-        draw_bytes(part.lent[ROLE_OUTPUT].data, part.lent[ROLE_OUTPUT].length);
-        written = outcome->refusal == PL022_DONE ? cycles_written(request, outcome) : 0;
+    for (unsigned role = 0; role < ROLES; role++) {
+        if (call_fills(request->call, role)) {
+            draw_bytes(part.lent[role].data, part.lent[role].length);
+        }
     }
     judge(&part, &one);
     agree(one.refusal == outcome->refusal && one.result == outcome->result
-          && same_records(request, &one, outcome)
-          && memcmp(one.after[ROLE_OUTPUT].data, outcome->after[ROLE_OUTPUT].data, written) == 0,
+          && one.starts == outcome->starts && same_records(request, &one, outcome)
+          && same_written(request, &one, outcome),
           request, outcome, "the same call on a copy gave something else");
+}
+
+/* What follows the place that decided is not looked at. */
+static void extend_text(const struct request *request, const struct outcome *outcome)
+{
+    struct bytes *text = &part.lent[ROLE_TEXT];
+    size_t more = draw_below(64);
+
+    request_copy(&part, request);
+    if (text->length + more > LENT_LIMIT) {
+        return;
+    }
+    draw_bytes(text->data + text->length, more);
+    text->length += more;
+    judge(&part, &one);
+    agree(one.refusal == outcome->refusal, request, outcome,
+          "what follows the place that decided made a difference");
 }
 
 static void run_part(const uint8_t *record, const uint8_t *input, size_t cycles,
@@ -67,7 +96,7 @@ static void split_run(const struct request *request, const struct outcome *outco
 {
     const uint8_t *input = request->lent[ROLE_INPUT].data;
     const uint8_t *output = outcome->after[ROLE_OUTPUT].data;
-    size_t cycles = cycles_written(request, outcome);
+    size_t cycles = call_wrote(request, outcome, ROLE_OUTPUT);
     size_t head = draw_between(0, (uint32_t)cycles);
 
     run_part(request->lent[ROLE_RECORD].data, input, head, &one);
@@ -80,7 +109,7 @@ static void split_run(const struct request *request, const struct outcome *outco
 
 static void idle_as_run(const struct request *request, const struct outcome *outcome)
 {
-    size_t cycles = cycles_written(request, outcome);
+    size_t cycles = call_wrote(request, outcome, ROLE_OUTPUT);
 
     run_part(request->lent[ROLE_RECORD].data, request->lent[ROLE_INPUT].data, cycles, &one);
     agree(same_records(&part, &one, outcome)
@@ -151,7 +180,12 @@ void relate(const struct request *request, const struct outcome *outcome)
         split_pair, swap_pair, follow_pair
     };
 
-    if (outcome->refusal != PL022_DONE || draw_one_in(3)) {
+    bool decided = outcome->refusal == PL022_TOO_MANY_CYCLES
+                || outcome->refusal == PL022_BAD_CHARACTER || outcome->refusal == PL022_EMPTY_LINE;
+
+    if (request->call == CALL_READ_TEXT && decided && draw_one_in(2)) {
+        extend_text(request, outcome);
+    } else if (outcome->refusal != PL022_DONE || draw_one_in(3)) {
         repeat(request, outcome);
     } else if (request->call == CALL_RUN_TO_IDLE && draw_one_in(2)) {
         idle_as_run(request, outcome);

@@ -60,8 +60,8 @@ static void print_call(void)
         fputs("  no answer\n", stderr);
         return;
     }
-    fprintf(stderr, "  answer %" PRIu64 " with 0x%" PRIx64 "\n",
-            current.outcome->refusal, current.outcome->result);
+    fprintf(stderr, "  answer %" PRIu64 " with 0x%" PRIx64 " and 0x%" PRIx64 "\n",
+            current.outcome->refusal, current.outcome->result, current.outcome->starts);
     for (unsigned role = 0; role < ROLES; role++) {
         if (call_lends(request->call, role)) {
             print_bytes("left", role, &current.outcome->after[role]);

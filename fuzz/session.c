@@ -7,6 +7,7 @@
 #include "promise.h"
 #include "record.h"
 #include "relate.h"
+#include "session_text.h"
 
 enum { DEVICES = 2, MOST_STEPS = 40 };
 
@@ -329,6 +330,13 @@ static void step_noise(unsigned which)
     submit(draw_one_in(16) ? CALL_RESET : (enum call)draw_between(CALL_READ, CALL_PAIR_RUN), which);
 }
 
+/* A text is of no device. */
+static void step_text(unsigned which)
+{
+    (void)which;
+    session_text();
+}
+
 static void start(unsigned which)
 {
     struct device *device = &devices[which];
@@ -369,7 +377,7 @@ void session(void)
     } steps[] = {
         {step_set_up, 5},  {step_set_up_pair, 1}, {step_load, 8},     {step_drain, 5},
         {step_run, 12},    {step_run_to_idle, 8}, {step_pair_run, 5}, {step_status, 8},
-        {step_disable, 2}, {step_noise, 20},      {start, 2},
+        {step_disable, 2}, {step_noise, 20},      {start, 2},         {step_text, 6},
     };
     uint32_t total = 0;
     for (size_t i = 0; i < sizeof steps / sizeof steps[0]; i++) {

@@ -14,6 +14,7 @@ static uint64_t enabled_runs[FORMATS][ROLES_OF_DEVICE][SIZES];
 static uint64_t arrivals[FORMATS][ROLES_OF_DEVICE];
 static uint64_t takes[FORMATS][ROLES_OF_DEVICE];
 static uint64_t raw_seen[RAW_BITS];
+static uint64_t full_texts[CALLS];
 
 static void tally_run(const struct request *request, const struct outcome *outcome, enum role role)
 {
@@ -41,6 +42,7 @@ void tally_call(const struct request *request, const struct outcome *outcome)
     answers[request->call][outcome->refusal]++;
     digest_number((uint64_t)request->call << 8 | outcome->refusal);
     digest_number(outcome->result);
+    digest_number(outcome->starts);
     if (outcome->refusal != PL022_DONE) {
         return;
     }
@@ -53,6 +55,10 @@ void tally_call(const struct request *request, const struct outcome *outcome)
         for (unsigned bit = 0; bit < RAW_BITS; bit++) {
             raw_seen[bit] += outcome->result >> bit & 1;
         }
+    } else if (call_lends(request->call, ROLE_TEXT)) {
+        uint64_t cycles = request->call == CALL_WRITE_TEXT ? request->lent[ROLE_LINES].length
+                                                           : outcome->result;
+        full_texts[request->call] += cycles == PL022_TEXT_CYCLES;
     }
 }
 
@@ -83,6 +89,8 @@ void tally_print(void)
                ", taken to be sent %" PRIu64 " and %" PRIu64,
                format, arrivals[format][0], arrivals[format][1], takes[format][0], takes[format][1]);
     }
+    printf("; texts of %d cycles written %" PRIu64 ", read %" PRIu64, PL022_TEXT_CYCLES,
+           full_texts[CALL_WRITE_TEXT], full_texts[CALL_READ_TEXT]);
 }
 
 static bool formats_complete(void)
@@ -122,6 +130,10 @@ bool tally_complete(void)
             fprintf(stderr, "fuzz: RIS bit %u was never read as 1\n", bit);
             complete = false;
         }
+    }
+    if (full_texts[CALL_WRITE_TEXT] == 0 || full_texts[CALL_READ_TEXT] == 0) {
+        fputs("fuzz: never wrote or read a text with all cycles\n", stderr);
+        complete = false;
     }
     return complete;
 }

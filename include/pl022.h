@@ -21,17 +21,18 @@
  *     output   CLK 1, FSS 2, TXD 4, nSSPOE 8   0 to 15
  *
  * A set bit is a HIGH level. nSSPOE HIGH means that the device does not drive TXD.
+ * pl022_write_text and pl022_read_text turn output bytes into text and back.
  *
  * Refusals. Every call answers with a refusal number. 0 means that the call was
  * done. With any other number nothing happened: the record and all buffers are as
  * they were, and a word or count that is returned beside it is 0. When several
- * numbers apply, the first of this table is given:
+ * numbers apply, the first of this table is given (pl022_read_text: see below it):
  *
  *     number                    given exactly when                       by
- *     10 PL022_WRONG_LENGTH     the record is not 128 bytes              all
+ *     10 PL022_WRONG_LENGTH     the record is not 128 bytes              all that take one
  *     11 PL022_LINES_DIFFER     input_len and output_len differ          run, run to idle
  *     12 PL022_BAD_INPUT        an input byte is above 7                 run, run to idle
- *      9 PL022_UNSOUND          the record is not sound                  all but reset
+ *      9 PL022_UNSOUND          the record is not sound                  the same but reset
  *      1 PL022_BAD_OFFSET       offset not a multiple of 4, or 0x1000
  *                               and up                                   read, write
  *      2 PL022_RESERVED         reserved offset, 0x28 to 0xFDC           read, write
@@ -45,13 +46,26 @@
  *      7 PL022_QUEUE_FULL       DR with eight words waiting: the word
  *                               is dropped                               write
  *      8 PL022_QUEUE_EMPTY      DR with no word held                     read
+ *     13 PL022_TOO_MANY_CYCLES  more than 4,096 cycles                   write text, read text
+ *     14 PL022_BAD_CYCLE        a cycle's byte is above 15               write text
+ *     15 PL022_BAD_PLACES       a place is not above the one before it,
+ *                               or not below the number of cycles        write text
+ *     17 PL022_BAD_CHARACTER    a character other than 0 to 9, A to F
+ *                               and the line feed                        read text
+ *     18 PL022_EMPTY_LINE       a line without a cycle                   read text
+ *     19 PL022_NO_LINE_FEED     the last line has no line feed           read text
+ *     16 PL022_TOO_SHORT        a lent buffer is shorter than what goes
+ *                               into it                                  write text, read text
+ *
+ * pl022_read_text gives 13, 17, 18 or 19, whichever comes first in the text, then 16.
  *
  * A record that was left by a call that was done is never refused with 9
  * afterwards, unless something else has changed its bytes.
  *
  * Every call requires that each pointer is valid for its length and not null,
  * even where that length is 0, and that the buffers lent to one call do not
- * overlap. The library cannot test these two. Anything else is safe to pass.
+ * overlap. A length counts elements: bytes, or numbers of 32 bits, which are aligned
+ * as any uint32_t is. The library cannot test these. Anything else is safe to pass.
  */
 #ifndef PL022_H
 #define PL022_H
@@ -72,6 +86,13 @@ extern "C" {
 /* The words that each of the two queues holds. */
 #define PL022_QUEUE_WORDS 8
 
+/*
+ * The cycles that fit into a text, and the bytes that are enough for any text: each
+ * cycle on a line of its own.
+ */
+#define PL022_TEXT_CYCLES 4096
+#define PL022_TEXT_LENGTH 8192
+
 /* Refusal numbers; the table above says when each is given. */
 enum pl022_refusal {
     PL022_DONE = 0,
@@ -86,7 +107,14 @@ enum pl022_refusal {
     PL022_UNSOUND = 9,
     PL022_WRONG_LENGTH = 10,
     PL022_LINES_DIFFER = 11,
-    PL022_BAD_INPUT = 12
+    PL022_BAD_INPUT = 12,
+    PL022_TOO_MANY_CYCLES = 13,
+    PL022_BAD_CYCLE = 14,
+    PL022_BAD_PLACES = 15,
+    PL022_TOO_SHORT = 16,
+    PL022_BAD_CHARACTER = 17,
+    PL022_EMPTY_LINE = 18,
+    PL022_NO_LINE_FEED = 19
 };
 
 /*
@@ -204,10 +232,23 @@ struct pl022_word {
     uint32_t word;
 };
 
-/* What a run to idle answers: the cycles run with refusal 0, or a refusal number with count 0. */
+/*
+ * What a run to idle and the writing of a text answer: the cycles run, or the bytes
+ * written, with refusal 0; or a refusal number with count 0.
+ */
 struct pl022_count {
     uint64_t refusal;
     uint64_t count;
+};
+
+/*
+ * What the reading of a text answers: the numbers of cycles and of line starts
+ * written, with refusal 0; or a refusal number with both 0.
+ */
+struct pl022_text {
+    uint64_t refusal;
+    uint64_t cycles;
+    uint64_t starts;
 };
 
 /*
@@ -299,6 +340,55 @@ struct pl022_count pl022_run_to_idle(uint8_t *record, size_t record_len,
  */
 uint32_t pl022_pair_run(uint8_t *first, size_t first_len,
                         uint8_t *second, size_t second_len, uint64_t cycles);
+
+/*
+ * pl022_write_text: writes a recording as text, one frame a line.
+ *
+ * lines has the levels of the signal lines, a byte a cycle, as runs write them; each
+ * becomes a capital hexadecimal digit. places are the numbers of the cycles in which a
+ * word was taken, counted from 0: each begins a line of text, which ends with a line
+ * feed. Cycles before the first place make a line of their own; without a place all
+ * cycles are one line. No cycles is an empty text. No byte 0 is added.
+ *
+ * To learn the places of a master run it a cycle at a time: a word is taken in the
+ * cycle in which PL022_RECORD_TX_COUNT falls. A file with the text is opened as binary,
+ * so that a line feed stays one.
+ *
+ * Returns     the number of bytes written with refusal 0; or 13, 14, 15, 16 with count 0.
+ *             PL022_TEXT_LENGTH bytes are always enough.
+ * Unchanged   lines and places, and the bytes from text[count] on; text as a whole, if
+ *             refused.
+ * Requires    valid pointers to lines_len bytes, places_len numbers and text_len bytes
+ *             that do not overlap; places is not null, even without a place.
+ */
+struct pl022_count pl022_write_text(const uint8_t *lines, size_t lines_len,
+                                    const uint32_t *places, size_t places_len,
+                                    uint8_t *text, size_t text_len);
+
+/*
+ * pl022_read_text: reads a text that pl022_write_text could have written.
+ *
+ * A byte for each cycle goes to lines; the number of the cycle with which each line of
+ * text begins goes to starts. What was written comes back: the cycles, and the places,
+ * with 0 before them if the first is not 0, or if there is none and there are cycles.
+ *
+ * The text is read from its start. The first character that cannot stand decides, or the
+ * end, where a line feed is missing; nothing behind it matters. If there is none, the
+ * buffers are checked: each must be long enough, and may be longer. A refusal gives no
+ * position: for 13, 17 and 18 it is the last byte of the shortest beginning of the text
+ * that is refused with the same number, for 19 the end.
+ *
+ * Returns     the number of cycles and of line starts written with refusal 0; or 13, 17,
+ *             18 or 19, whichever comes first in the text, then 16, with both 0.
+ *             PL022_TEXT_CYCLES elements in each buffer are always enough.
+ * Unchanged   the text, and what lies behind the cycles and the starts that were
+ *             written; both buffers as a whole, if refused.
+ * Requires    valid pointers to text_len bytes, lines_len bytes and starts_len numbers
+ *             that do not overlap.
+ */
+struct pl022_text pl022_read_text(const uint8_t *text, size_t text_len,
+                                  uint8_t *lines, size_t lines_len,
+                                  uint32_t *starts, size_t starts_len);
 
 #ifdef __cplusplus
 }

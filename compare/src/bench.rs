@@ -1,9 +1,9 @@
 //! Two programs side by side: each call goes to both and all it gave is compared.
 
-use crate::command::{hex, Command};
+use crate::command::{hex, numbers, Command};
 use crate::model::Model;
 use crate::record::LENGTH;
-use crate::session::{Outcome, Session, PREFILL};
+use crate::session::{Outcome, Session, PREFILL, PREFILL_NUMBER};
 use std::fmt;
 use std::fs::File;
 use std::io::{Seek, Write};
@@ -13,6 +13,36 @@ use std::io::{Seek, Write};
 pub struct Difference(pub String);
 
 pub type Step<T> = Result<T, Difference>;
+
+/// Calls with texts, by refusal number; 0 is done.
+#[derive(Clone, Copy, Default)]
+pub struct Tally([u64; 20]);
+
+impl Tally {
+    fn add(&mut self, refusal: u64) {
+        if let Some(count) = self.0.get_mut(refusal as usize) {
+            *count += 1;
+        }
+    }
+
+    pub fn of(&self, refusal: u32) -> u64 {
+        self.0[refusal as usize]
+    }
+
+    pub fn total(&self) -> u64 {
+        self.0.iter().sum()
+    }
+}
+
+impl fmt::Display for Tally {
+    fn fmt(&self, f: &mut fmt::Formatter) -> fmt::Result {
+        write!(f, "{} (done {}", self.total(), self.0[0])?;
+        for (number, count) in self.0.iter().enumerate().skip(1).filter(|(_, count)| **count > 0) {
+            write!(f, ", {number}: {count}")?;
+        }
+        write!(f, ")")
+    }
+}
 
 #[derive(Clone, Copy, Default)]
 pub struct Counts {
@@ -24,10 +54,22 @@ pub struct Counts {
     pub pair: u64,
     pub refused: u64,
     pub cycles: u64,
+    pub write_text: Tally,
+    pub read_text: Tally,
+    /// Texts drawn by chance; each takes several calls.
+    pub random_texts: u64,
 }
 
 impl Counts {
     fn add(&mut self, command: &Command, outcome: &Outcome) {
+        match command {
+            Command::WriteText { .. } => self.write_text.add(outcome.refusal),
+            Command::ReadText { .. } => self.read_text.add(outcome.refusal),
+            _ => self.add_to_devices(command, outcome),
+        }
+    }
+
+    fn add_to_devices(&mut self, command: &Command, outcome: &Outcome) {
         let done = outcome.refusal == 0;
         self.refused += u64::from(!done);
         match command {
@@ -50,6 +92,13 @@ impl Counts {
         }
     }
 
+    /// The calls with texts, and how many texts were random.
+    pub fn texts(&self) -> String {
+        let Counts { write_text, read_text, random_texts, .. } = self;
+        format!("texts: {write_text} written, {read_text} read; {random_texts} random texts")
+    }
+
+    /// Of devices; those of texts are counted for themselves.
     pub fn calls(&self) -> u64 {
         self.reset + self.read + self.write + self.run + self.idle + self.pair
     }
@@ -141,6 +190,18 @@ impl<'m> Bench<'m> {
         Ok(one)
     }
 
+    /// What the newest call must have done, whatever the programs agree on.
+    pub fn require(&self, kept: bool, what: &str) -> Step<()> {
+        if kept {
+            return Ok(());
+        }
+        let mut text = format!("# {}\n# not so: {what}\n", self.title);
+        for command in &self.log {
+            text += &format!("{command}\n");
+        }
+        Err(Difference(text))
+    }
+
     fn write_trace(&mut self, command: &Command) {
         let Some(file) = &mut self.trace else { return };
         let mut text = format!("# {}\n", self.title);
@@ -156,7 +217,8 @@ impl<'m> Bench<'m> {
     }
 
     fn compare(&self, one: &Outcome, other: &Outcome) -> Option<String> {
-        if one.refusal != other.refusal || one.value != other.value {
+        let answers = [one, other].map(|outcome| (outcome.refusal, outcome.value, outcome.lines));
+        if answers[0] != answers[1] {
             return Some("answers differ".to_string());
         }
         if !one.intact || !other.intact {
@@ -164,6 +226,9 @@ impl<'m> Bench<'m> {
         }
         if let Some(at) = first_difference(&one.output, &other.output) {
             return Some(format!("output differs at byte {at}"));
+        }
+        if let Some(at) = first_difference(&one.starts, &other.starts) {
+            return Some(format!("line start {at} differs"));
         }
         for (device, (a, b)) in self.second.records.iter().zip(&self.other.records).enumerate() {
             if let Some(at) = first_difference(a, b) {
@@ -176,7 +241,9 @@ impl<'m> Bench<'m> {
     /// Whatever the programs agree on, a refusal must leave all as it was.
     fn refused_unchanged(&self, before: &[Vec<u8>; 2], outcome: &Outcome) -> Option<String> {
         let untouched = outcome.value == 0
+            && outcome.lines == 0
             && outcome.output.iter().all(|byte| *byte == PREFILL)
+            && outcome.starts.iter().all(|number| *number == PREFILL_NUMBER)
             && *before == self.second.records;
         (outcome.refusal != 0 && !untouched).then(|| "a refused call changed something".to_string())
     }
@@ -194,6 +261,10 @@ impl<'m> Bench<'m> {
         {
             text += &format!("# {name} refusal {} value {}", outcome.refusal, outcome.value);
             text += &format!(" output {}\n", hex(&outcome.output));
+            if !outcome.starts.is_empty() {
+                text += &format!("# {name} lines {}", outcome.lines);
+                text += &format!(" starts {}\n", numbers(&outcome.starts));
+            }
             for record in &session.records {
                 text += &format!("# {name} record after {}\n", hex(record));
             }
@@ -211,7 +282,7 @@ impl<'m> Bench<'m> {
     }
 }
 
-/// The first byte that differs or that only one has.
-fn first_difference(a: &[u8], b: &[u8]) -> Option<usize> {
+/// The first place at which they differ or that only one has.
+fn first_difference<T: PartialEq>(a: &[T], b: &[T]) -> Option<usize> {
     (0..a.len().max(b.len())).find(|at| a.get(*at) != b.get(*at))
 }

@@ -44,6 +44,16 @@ pub enum Command {
     Dump {
         device: usize,
     },
+    WriteText {
+        cycles: Vec<u8>,
+        places: Vec<u32>,
+        text_len: usize,
+    },
+    ReadText {
+        text: Vec<u8>,
+        cycles_len: usize,
+        starts_len: usize,
+    },
 }
 
 pub fn hex(bytes: &[u8]) -> String {
@@ -59,6 +69,22 @@ pub fn digits(bytes: &[u8]) -> String {
         return "-".to_string();
     }
     bytes.iter().map(|byte| format!("{byte:x}")).collect()
+}
+
+/// Hexadecimal, `-` for none.
+pub fn numbers(numbers: &[u32]) -> String {
+    if numbers.is_empty() {
+        return "-".to_string();
+    }
+    let shown: Vec<String> = numbers.iter().map(|number| format!("{number:x}")).collect();
+    shown.join(",")
+}
+
+fn parse_numbers(text: &str) -> Option<Vec<u32>> {
+    if text == "-" {
+        return Some(Vec::new());
+    }
+    text.split(',').map(parse_number).collect()
 }
 
 fn parse_digits(text: &str) -> Option<Vec<u8>> {
@@ -90,6 +116,16 @@ impl Command {
         match words[..] {
             ["pair", cycles] => Some(Command::Pair { cycles: cycles.parse().ok()? }),
             ["pairrun", cycles] => Some(Command::PairRun { cycles: cycles.parse().ok()? }),
+            ["writetext", cycles, places, text_len] => Some(Command::WriteText {
+                cycles: parse_hex(cycles)?,
+                places: parse_numbers(places)?,
+                text_len: text_len.parse().ok()?,
+            }),
+            ["readtext", text, cycles_len, starts_len] => Some(Command::ReadText {
+                text: parse_hex(text)?,
+                cycles_len: cycles_len.parse().ok()?,
+                starts_len: starts_len.parse().ok()?,
+            }),
             [name, device, ref rest @ ..] => parse_for(name, parse_device(device)?, rest),
             _ => None,
         }
@@ -167,6 +203,12 @@ impl fmt::Display for Command {
             Command::Load { device, bytes } => write!(f, "load {device} {}", hex(bytes)),
             Command::Save { device } => write!(f, "save {device}"),
             Command::Dump { device } => write!(f, "dump {device}"),
+            Command::WriteText { cycles, places, text_len } => {
+                write!(f, "writetext {} {} {text_len}", hex(cycles), numbers(places))
+            }
+            Command::ReadText { text, cycles_len, starts_len } => {
+                write!(f, "readtext {} {cycles_len} {starts_len}", hex(text))
+            }
         }
     }
 }

@@ -21,6 +21,14 @@ mod linked {
         count: u64,
     }
 
+    #[repr(C)]
+    #[derive(Clone, Copy)]
+    struct Text {
+        refusal: u64,
+        cycles: u64,
+        starts: u64,
+    }
+
     extern "C" {
         fn pl022_reset(record: *mut u8, record_len: usize) -> u32;
         fn pl022_read(record: *mut u8, record_len: usize, offset: u32) -> Word;
@@ -48,6 +56,22 @@ mod linked {
             second_len: usize,
             cycles: u64,
         ) -> u32;
+        fn pl022_write_text(
+            lines: *const u8,
+            lines_len: usize,
+            places: *const u32,
+            places_len: usize,
+            text: *mut u8,
+            text_len: usize,
+        ) -> Count;
+        fn pl022_read_text(
+            text: *const u8,
+            text_len: usize,
+            lines: *mut u8,
+            lines_len: usize,
+            starts: *mut u32,
+            starts_len: usize,
+        ) -> Text;
     }
 
     /// The archive linked by build.rs.
@@ -106,6 +130,34 @@ mod linked {
                     cycles,
                 )
             }
+        }
+
+        fn write_text(&self, cycles: &[u8], places: &[u32], text: &mut [u8]) -> (u64, u64) {
+            let answer = unsafe {
+                pl022_write_text(
+                    cycles.as_ptr(),
+                    cycles.len(),
+                    places.as_ptr(),
+                    places.len(),
+                    text.as_mut_ptr(),
+                    text.len(),
+                )
+            };
+            (answer.refusal, answer.count)
+        }
+
+        fn read_text(&self, text: &[u8], cycles: &mut [u8], starts: &mut [u32]) -> (u64, u64, u64) {
+            let answer = unsafe {
+                pl022_read_text(
+                    text.as_ptr(),
+                    text.len(),
+                    cycles.as_mut_ptr(),
+                    cycles.len(),
+                    starts.as_mut_ptr(),
+                    starts.len(),
+                )
+            };
+            (answer.refusal, answer.cycles, answer.starts)
         }
     }
 }

@@ -1,6 +1,6 @@
 //! The calls as a trait, so that two programs can stand side by side.
 
-use crate::calls;
+use crate::{calls, text};
 
 pub trait Model {
     fn reset(&self, record: &mut [u8]) -> u32;
@@ -9,6 +9,8 @@ pub trait Model {
     fn run(&self, record: &mut [u8], input: &[u8], output: &mut [u8]) -> u32;
     fn run_to_idle(&self, record: &mut [u8], input: &[u8], output: &mut [u8]) -> (u64, u64);
     fn pair_run(&self, first: &mut [u8], second: &mut [u8], cycles: u64) -> u32;
+    fn write_text(&self, cycles: &[u8], places: &[u32], text: &mut [u8]) -> (u64, u64);
+    fn read_text(&self, text: &[u8], cycles: &mut [u8], starts: &mut [u32]) -> (u64, u64, u64);
 }
 
 /// The program of this crate.
@@ -37,5 +39,13 @@ impl Model for Second {
 
     fn pair_run(&self, first: &mut [u8], second: &mut [u8], cycles: u64) -> u32 {
         calls::pair_run(first, second, cycles)
+    }
+
+    fn write_text(&self, cycles: &[u8], places: &[u32], text: &mut [u8]) -> (u64, u64) {
+        text::write_text(cycles, places, text)
+    }
+
+    fn read_text(&self, text: &[u8], cycles: &mut [u8], starts: &mut [u32]) -> (u64, u64, u64) {
+        text::read_text(text, cycles, starts)
     }
 }

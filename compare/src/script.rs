@@ -1,6 +1,6 @@
 //! The command language: one answer line for each command.
 
-use crate::command::{digits, hex, is_short, Command};
+use crate::command::{digits, hex, is_short, numbers, Command};
 use crate::device::Device;
 use crate::record::{at, decode};
 use crate::session::{Outcome, Session};
@@ -35,6 +35,13 @@ pub fn answer(session: &mut Session, command: &Command) -> String {
             let count = outcome.value as usize;
             let shown = show_output(&outcome, is_short(input, *output_len), count);
             format!("{} {} {shown}", outcome.refusal, outcome.value)
+        }
+        Command::WriteText { .. } => {
+            format!("{} {} {}", outcome.refusal, outcome.value, hex(&outcome.output))
+        }
+        Command::ReadText { .. } => {
+            let counts = format!("{} {} {}", outcome.refusal, outcome.value, outcome.lines);
+            format!("{counts} {} {}", hex(&outcome.output), numbers(&outcome.starts))
         }
         _ => outcome.refusal.to_string(),
     }

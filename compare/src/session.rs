@@ -6,50 +6,74 @@ use crate::record::LENGTH;
 
 /// What output buffers hold before a call, so that untouched bytes show.
 pub const PREFILL: u8 = 0xEE;
+pub const PREFILL_NUMBER: u32 = 0xEEEE_EEEE;
 
-const GUARD: usize = 32;
-const GUARD_BYTE: u8 = 0x5C;
+/// Guards on each side of a buffer.
+const GUARDS: usize = 32;
 
-/// A lent buffer between guard bytes, which no call may touch.
-struct Lent {
-    bytes: Vec<u8>,
+/// What a lent buffer holds: bytes, or numbers.
+trait Item: Copy + PartialEq {
+    const GUARD: Self;
 }
 
-impl Lent {
-    fn new(content: &[u8]) -> Lent {
-        let mut bytes = vec![GUARD_BYTE; GUARD];
-        bytes.extend_from_slice(content);
-        bytes.extend_from_slice(&[GUARD_BYTE; GUARD]);
-        Lent { bytes }
+impl Item for u8 {
+    const GUARD: u8 = 0x5C;
+}
+
+impl Item for u32 {
+    const GUARD: u32 = 0x5C5C_5C5C;
+}
+
+/// A lent buffer between guards, which no call may touch.
+struct Lent<T> {
+    items: Vec<T>,
+}
+
+impl<T: Item> Lent<T> {
+    fn new(content: &[T]) -> Lent<T> {
+        let mut items = Vec::with_capacity(content.len() + 2 * GUARDS);
+        items.extend_from_slice(&[T::GUARD; GUARDS]);
+        items.extend_from_slice(content);
+        items.extend_from_slice(&[T::GUARD; GUARDS]);
+        Lent { items }
     }
 
-    fn content(&mut self) -> &mut [u8] {
-        let end = self.bytes.len() - GUARD;
-        &mut self.bytes[GUARD..end]
+    fn content(&mut self) -> &mut [T] {
+        let end = self.items.len() - GUARDS;
+        &mut self.items[GUARDS..end]
     }
 
     fn intact(&self) -> bool {
-        let end = self.bytes.len() - GUARD;
-        let guards = self.bytes[..GUARD].iter().chain(&self.bytes[end..]);
-        guards.into_iter().all(|byte| *byte == GUARD_BYTE)
+        let end = self.items.len() - GUARDS;
+        let guards = self.items[..GUARDS].iter().chain(&self.items[end..]);
+        guards.into_iter().all(|item| *item == T::GUARD)
+    }
+
+    /// Nothing of it was written.
+    fn holds(&mut self, content: &[T]) -> bool {
+        self.intact() && self.content() == content
     }
 }
 
 /// What one call gave, besides the records.
-#[derive(Clone, PartialEq, Eq, Debug)]
+#[derive(Clone, PartialEq, Eq, Debug, Default)]
 pub struct Outcome {
     pub refusal: u64,
-    /// The word read or the cycles counted.
+    /// The word read, the cycles counted, or the bytes of a text.
     pub value: u64,
+    /// The lines of a text that was read.
+    pub lines: u64,
     pub output: Vec<u8>,
-    /// Guard bytes and input are as they were.
+    /// The buffer for line starts.
+    pub starts: Vec<u32>,
+    /// Guards and input are as they were.
     pub intact: bool,
 }
 
 impl Outcome {
     fn plain(refusal: u32, value: u32, intact: bool) -> Outcome {
         let (refusal, value) = (u64::from(refusal), u64::from(value));
-        Outcome { refusal, value, output: Vec::new(), intact }
+        Outcome { refusal, value, intact, ..Outcome::default() }
     }
 }
 
@@ -95,6 +119,12 @@ impl<'m> Session<'m> {
                 Outcome::plain(0, 0, true)
             }
             Command::Save { .. } | Command::Dump { .. } => Outcome::plain(0, 0, true),
+            Command::WriteText { cycles, places, text_len } => {
+                self.write_text(cycles, places, *text_len)
+            }
+            Command::ReadText { text, cycles_len, starts_len } => {
+                self.read_text(text, *cycles_len, *starts_len)
+            }
         }
     }
 
@@ -117,12 +147,12 @@ impl<'m> Session<'m> {
         let mut output = Lent::new(&vec![PREFILL; output_len]);
         let answer = call(self.model, record.content(), pins.content(), output.content());
         self.records[device].copy_from_slice(record.content());
-        let intact = record.intact() && pins.intact() && output.intact();
         Outcome {
             refusal: answer.0,
             value: answer.1,
-            intact: intact && pins.content() == input,
+            intact: record.intact() && pins.holds(input) && output.intact(),
             output: output.content().to_vec(),
+            ..Outcome::default()
         }
     }
 
@@ -133,5 +163,36 @@ impl<'m> Session<'m> {
         self.records[0].copy_from_slice(first.content());
         self.records[1].copy_from_slice(second.content());
         Outcome::plain(refusal, 0, first.intact() && second.intact())
+    }
+
+    fn write_text(&self, cycles: &[u8], places: &[u32], text_len: usize) -> Outcome {
+        let mut lent_cycles = Lent::new(cycles);
+        let mut lent_places = Lent::new(places);
+        let mut text = Lent::new(&vec![PREFILL; text_len]);
+        let (refusal, value) =
+            self.model.write_text(lent_cycles.content(), lent_places.content(), text.content());
+        Outcome {
+            refusal,
+            value,
+            intact: lent_cycles.holds(cycles) && lent_places.holds(places) && text.intact(),
+            output: text.content().to_vec(),
+            ..Outcome::default()
+        }
+    }
+
+    fn read_text(&self, text: &[u8], cycles_len: usize, starts_len: usize) -> Outcome {
+        let mut lent_text = Lent::new(text);
+        let mut cycles = Lent::new(&vec![PREFILL; cycles_len]);
+        let mut starts = Lent::new(&vec![PREFILL_NUMBER; starts_len]);
+        let (refusal, value, lines) =
+            self.model.read_text(lent_text.content(), cycles.content(), starts.content());
+        Outcome {
+            refusal,
+            value,
+            lines,
+            intact: lent_text.holds(text) && cycles.intact() && starts.intact(),
+            output: cycles.content().to_vec(),
+            starts: starts.content().to_vec(),
+        }
     }
 }

@@ -1,8 +1,8 @@
 //! The harness itself: it agrees with itself and finds faults.
 
 use compare::bench::Bench;
-use compare::cases::{bits, run, Plan};
-use compare::fault::{Faulty, BIT_FAULTS, FAULTS, MICROWIRE_FAULTS, TIMEOUT_FAULTS};
+use compare::cases::{bits, random_text, run, run_texts, text, Plan};
+use compare::fault::{Faulty, BIT_FAULTS, FAULTS, MICROWIRE_FAULTS, TEXT_FAULTS, TIMEOUT_FAULTS};
 use compare::model::Second;
 use compare::random::Random;
 
@@ -45,5 +45,39 @@ fn single_bits_find_their_faults_alone() {
         let faulty = Faulty(number);
         let mut bench = Bench::new(&Second, &faulty);
         assert!(bits::one_by_one(&mut bench, &mut Random::new(0)).is_err(), "fault {number}");
+    }
+}
+
+/// The fixed texts find each fault, and random ones do in a few rounds, whatever the seed.
+#[test]
+fn texts_find_their_faults_alone() {
+    for number in TEXT_FAULTS {
+        let faulty = Faulty(number);
+        let mut bench = Bench::new(&Second, &faulty);
+        assert!(text::fixed(&mut bench, &mut Random::new(0)).is_err(), "fault {number}");
+        for seed in 1..=10 {
+            let mut random = Random::new(seed << 32);
+            let found = (0..8).any(|_| random_text::texts(&mut bench, &mut random).is_err());
+            assert!(found, "fault {number}, seed {seed}");
+        }
+    }
+}
+
+#[test]
+fn random_texts_are_counted() {
+    let mut bench = Bench::new(&Second, &Second);
+    assert!(run_texts(&mut bench, &Plan { rounds: 2, ..PLAN }).is_ok());
+    assert_eq!(bench.counts.random_texts, 2 * random_text::TEXTS);
+}
+
+#[test]
+fn texts_meet_every_refusal() {
+    let mut bench = Bench::new(&Second, &Second);
+    assert!(run_texts(&mut bench, &Plan { rounds: 8, ..PLAN }).is_ok());
+    for number in [0, 13, 14, 15, 16] {
+        assert!(bench.counts.write_text.of(number) > 0, "writing, {number}");
+    }
+    for number in [0, 13, 16, 17, 18, 19] {
+        assert!(bench.counts.read_text.of(number) > 0, "reading, {number}");
     }
 }

@@ -20,6 +20,13 @@ const char *refusal_text(uint32_t refusal)
         [PL022_WRONG_LENGTH] = "the record does not have 128 bytes",
         [PL022_LINES_DIFFER] = "input and output differ in length",
         [PL022_BAD_INPUT] = "an input byte is above 7",
+        [PL022_TOO_MANY_CYCLES] = "more cycles than fit into a text",
+        [PL022_BAD_CYCLE] = "a cycle is above 15",
+        [PL022_BAD_PLACES] = "places do not rise, or lie past the last cycle",
+        [PL022_TOO_SHORT] = "a buffer is shorter than what goes into it",
+        [PL022_BAD_CHARACTER] = "a character is no capital digit and no line feed",
+        [PL022_EMPTY_LINE] = "a line has no cycle",
+        [PL022_NO_LINE_FEED] = "the last line feed is missing",
     };
     return refusal < sizeof texts / sizeof texts[0] ? texts[refusal] : "unknown number";
 }

@@ -1,4 +1,4 @@
-/* refusals.c: every refusal, provoked on purpose on a device of its own. */
+/* refusals.c: every refusal, provoked on purpose on a device or a text of its own. */
 #include <inttypes.h>
 #include <stdio.h>
 #include <stdlib.h>
@@ -47,6 +47,37 @@ static const struct attempt attempts[] = {
     { PL022_BAD_INPUT,     AFTER_RESET, CALL_RUN,   0,        8, 0, "run, last input byte 8" },
     { PL022_BAD_INPUT,     QUEUE_FULL,  CALL_RUN_TO_IDLE, 0,  8, 0,
       "run to idle, last input byte 8" },
+};
+
+/* What the calls on texts are lent. */
+struct text_lent {
+    uint8_t lines[PL022_TEXT_CYCLES + 1];
+    uint32_t places[2];
+    uint8_t text[PL022_TEXT_LENGTH];
+};
+
+struct text_attempt {
+    uint32_t refusal;           /* expected */
+    const char *text;           /* to be read; NULL: cycles are written */
+    size_t cycles;              /* to be written, or places for those that are read */
+    uint8_t last;               /* the last cycle to be written */
+    uint32_t place;             /* the second one; the first is 0 */
+    size_t room;                /* bytes for the text to be written */
+    const char *what;
+};
+
+static const struct text_attempt text_attempts[] = {
+    { PL022_TOO_MANY_CYCLES, NULL, PL022_TEXT_CYCLES + 1, 0, 8, PL022_TEXT_LENGTH,
+      "write of a text, 4,097 cycles" },
+    { PL022_BAD_CYCLE,     NULL, 18, 16, 8,  20, "write of a text, last cycle 16" },
+    { PL022_BAD_PLACES,    NULL, 18, 0,  18, 20, "write of a text, 18 cycles, place 18" },
+    { PL022_TOO_SHORT,     NULL, 18, 0,  8,  19, "write of a text, 20 bytes into 19" },
+    { PL022_TOO_SHORT,     "BA541054\n3210541054\n", 17, 0, 0, 0,
+      "read of a text, 18 cycles into 17" },
+    { PL022_BAD_CHARACTER, "BA541054\r\n", 18, 0, 0, 0, "read of a text, line end CR LF" },
+    { PL022_EMPTY_LINE,    "BA541054\n\n", 18, 0, 0, 0, "read of a text, second line empty" },
+    { PL022_NO_LINE_FEED,  "BA541054\n3210541054", 18, 0, 0, 0,
+      "read of a text, no last line feed" },
 };
 
 static void prepare(struct lent *lent, const struct attempt *attempt)
@@ -100,6 +131,19 @@ static uint32_t perform(struct lent *lent, const struct attempt *attempt, uint64
     }
 }
 
+static void show_answer(const char *what, uint32_t refusal, uint32_t expected, uint64_t beside,
+                        bool unchanged)
+{
+    printf("  %-41s %2" PRIu32 ", %s; %s\n", what, refusal, refusal_text(refusal),
+           unchanged ? "nothing changed" : "CHANGED");
+    if (refusal != expected || beside != 0 || !unchanged) {
+        fflush(stdout);
+        fprintf(stderr, "board: %s: expected refusal %" PRIu32 " with 0 and nothing changed\n",
+                what, expected);
+        exit(EXIT_FAILURE);
+    }
+}
+
 static void show(const struct attempt *attempt)
 {
     struct lent lent, before;
@@ -112,14 +156,47 @@ static void show(const struct attempt *attempt)
                      memcmp(lent.other.record, before.other.record, PL022_RECORD_LENGTH) == 0 &&
                      memcmp(lent.input, before.input, BUFFER) == 0 &&
                      memcmp(lent.output, before.output, BUFFER) == 0;
-    printf("  %-41s %2" PRIu32 ", %s; %s\n", attempt->what, refusal, refusal_text(refusal),
-           unchanged ? "nothing changed" : "CHANGED");
-    if (refusal != attempt->refusal || beside != 0 || !unchanged) {
-        fflush(stdout);
-        fprintf(stderr, "board: %s: expected refusal %" PRIu32 " with 0 and nothing changed\n",
-                attempt->what, attempt->refusal);
-        exit(EXIT_FAILURE);
+    show_answer(attempt->what, refusal, attempt->refusal, beside, unchanged);
+}
+
+static void prepare_text(struct text_lent *lent, const struct text_attempt *attempt)
+{
+    memset(lent, 0, sizeof *lent);
+    lent->places[1] = attempt->place;
+    if (attempt->text != NULL)
+        memcpy(lent->text, attempt->text, strlen(attempt->text));
+    else
+        lent->lines[attempt->cycles - 1] = attempt->last;
+}
+
+/* As perform above. */
+static uint32_t perform_text(struct text_lent *lent, const struct text_attempt *attempt,
+                             uint64_t *beside)
+{
+    if (attempt->text != NULL) {
+        struct pl022_text read = pl022_read_text(lent->text, strlen(attempt->text),
+                                                 lent->lines, attempt->cycles, lent->places, 2);
+        *beside = read.cycles + read.starts;
+        return (uint32_t)read.refusal;
     }
+    struct pl022_count written = pl022_write_text(lent->lines, attempt->cycles, lent->places, 2,
+                                                  lent->text, attempt->room);
+    *beside = written.count;
+    return (uint32_t)written.refusal;
+}
+
+static void show_text(const struct text_attempt *attempt)
+{
+    struct text_lent lent, before;
+    uint64_t beside;
+
+    prepare_text(&lent, attempt);
+    before = lent;
+    uint32_t refusal = perform_text(&lent, attempt, &beside);
+    bool unchanged = memcmp(lent.lines, before.lines, sizeof lent.lines) == 0 &&
+                     memcmp(lent.places, before.places, sizeof lent.places) == 0 &&
+                     memcmp(lent.text, before.text, sizeof lent.text) == 0;
+    show_answer(attempt->what, refusal, attempt->refusal, beside, unchanged);
 }
 
 /* The change that was refused with 5 above, in the order that is accepted. */
@@ -148,10 +225,13 @@ static void show_right_order(void)
 unsigned show_refusals(void)
 {
     unsigned count = sizeof attempts / sizeof attempts[0];
+    unsigned text_count = sizeof text_attempts / sizeof text_attempts[0];
 
     printf("Refusals, provoked on purpose\n");
     for (unsigned i = 0; i < count; i++)
         show(&attempts[i]);
+    for (unsigned i = 0; i < text_count; i++)
+        show_text(&text_attempts[i]);
     show_right_order();
-    return count;
+    return count + text_count;
 }

@@ -52,6 +52,11 @@ size_t bench_cycles(const struct bench *bench)
     return recording[0].cycles > 0 ? recording[0].cycles : recording[1].cycles;
 }
 
+bool bench_ran_pair(const struct bench *bench)
+{
+    return bench->recording[0].cycles > 0 && bench->recording[1].cycles > 0;
+}
+
 uint8_t bench_last_levels(const struct bench *bench, unsigned device)
 {
     const uint8_t *record = bench->record[device];

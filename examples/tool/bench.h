@@ -60,6 +60,9 @@ void bench_next(struct bench *bench);
 /* The cycles that this command ran; in a pair both devices ran as many. */
 size_t bench_cycles(const struct bench *bench);
 
+/* Whether this command ran a cycle of the wired pair. */
+bool bench_ran_pair(const struct bench *bench);
+
 /* The levels in the last cycle of a device, from its record. */
 uint8_t bench_last_levels(const struct bench *bench, unsigned device);
 

@@ -2,6 +2,7 @@
 
 #include <inttypes.h>
 #include <stdlib.h>
+#include <string.h>
 
 /*
  * A cycle is two columns: the edge against the cycle before, then the level. With
@@ -46,6 +47,13 @@ static const struct row {
     {"nSSPOE", LINE_NSSPOE},
 };
 
+/* What one recording adds to a diagram. */
+struct part {
+    const char *label; /* stands before the name of each row */
+    const struct recording *recording;
+    bool with_inputs;
+};
+
 unsigned diagram_columns(void)
 {
     const char *text = getenv("COLUMNS");
@@ -87,11 +95,13 @@ static void draw_cycle(const struct strokes *strokes, enum line_number line, uns
     fputs(flat, out);
 }
 
-static void draw_row(const struct strokes *strokes, unsigned device, const struct row *row,
-                     const struct recording *recording, size_t first, size_t end, FILE *out)
+static void draw_row(const struct strokes *strokes, const struct part *part, const struct row *row,
+                     size_t first, size_t end, FILE *out)
 {
+    const struct recording *recording = part->recording;
     unsigned before = first == 0 ? recording->before : recording->levels[first - 1];
-    fprintf(out, "  %u %-*s", device, LABEL_COLUMNS - 4, row->name);
+    int name_columns = LABEL_COLUMNS - 2 - (int)strlen(part->label);
+    fprintf(out, "  %s%-*s", part->label, name_columns, row->name);
     for (size_t n = first; n < end; n++) {
         draw_cycle(strokes, row->line, before, recording->levels[n], out);
         before = recording->levels[n];
@@ -109,37 +119,55 @@ static bool inputs_are_low(const struct recording *recording)
     return true;
 }
 
-static void draw_block(const struct strokes *strokes, const struct bench *bench,
-                       const bool with_inputs[DEVICES], size_t first, size_t end, FILE *out)
+static void draw_block(const struct strokes *strokes, const struct part *parts, size_t count,
+                       size_t first, size_t end, FILE *out)
 {
     draw_ruler(first, end, out);
-    for (unsigned device = 0; device < DEVICES; device++) {
-        const struct recording *recording = &bench->recording[device];
-        for (size_t n = 0; recording->cycles > 0 && n < sizeof rows / sizeof rows[0]; n++) {
-            if (rows[n].line < LINE_CLK_IN || with_inputs[device]) {
-                draw_row(strokes, device, &rows[n], recording, first, end, out);
+    for (const struct part *part = parts; part < parts + count; part++) {
+        for (size_t n = 0; n < sizeof rows / sizeof rows[0]; n++) {
+            if (rows[n].line < LINE_CLK_IN || part->with_inputs) {
+                draw_row(strokes, part, &rows[n], first, end, out);
             }
         }
+    }
+}
+
+/* One part or more, all of as many cycles. */
+static void draw_parts(const struct diagram *diagram, const struct part *parts, size_t count,
+                       uint64_t time, FILE *out)
+{
+    const struct strokes *strokes = diagram->ascii ? &ascii_strokes : &unicode_strokes;
+    size_t cycles = parts[0].recording->cycles;
+    size_t step = cycles_in_block(diagram->columns);
+    fprintf(out, "  time %" PRIu64 ", %zu cycle%s\n", time, cycles, cycles == 1 ? "" : "s");
+    for (size_t first = 0; first < cycles; first += step) {
+        size_t end = cycles - first < step ? cycles : first + step;
+        draw_block(strokes, parts, count, first, end, out);
     }
 }
 
 void diagram_draw(const struct diagram *diagram, const struct bench *bench, uint64_t time,
                   FILE *out)
 {
-    const struct strokes *strokes = diagram->ascii ? &ascii_strokes : &unicode_strokes;
-    const struct recording *recording = bench->recording;
-    bool pair = recording[0].cycles > 0 && recording[1].cycles > 0;
-    size_t cycles = bench_cycles(bench);
-    if (cycles == 0) {
-        return;
+    static const char *const labels[DEVICES] = {"0 ", "1 "};
+    struct part parts[DEVICES];
+    size_t count = 0;
+    for (unsigned device = 0; device < DEVICES; device++) {
+        const struct recording *recording = &bench->recording[device];
+        if (recording->cycles > 0) {
+            /* In a pair each input is the other's output a cycle earlier: drawn already. */
+            bool with_inputs = !bench_ran_pair(bench) && !inputs_are_low(recording);
+            parts[count++] = (struct part){labels[device], recording, with_inputs};
+        }
     }
-    /* In a pair each input is the other's output a cycle earlier: drawn already. */
-    bool with_inputs[DEVICES] = {!pair && !inputs_are_low(&recording[0]),
-                                 !pair && !inputs_are_low(&recording[1])};
-    fprintf(out, "  time %" PRIu64 ", %zu cycle%s\n", time, cycles, cycles == 1 ? "" : "s");
-    size_t step = cycles_in_block(diagram->columns);
-    for (size_t first = 0; first < cycles; first += step) {
-        size_t end = cycles - first < step ? cycles : first + step;
-        draw_block(strokes, bench, with_inputs, first, end, out);
+    if (count > 0) {
+        draw_parts(diagram, parts, count, time, out);
     }
+}
+
+void diagram_draw_recording(const struct diagram *diagram, const struct recording *recording,
+                            uint64_t time, FILE *out)
+{
+    const struct part part = {.label = "", .recording = recording};
+    draw_parts(diagram, &part, 1, time, out);
 }

@@ -1,4 +1,4 @@
-/* diagram.h: the recordings of one command as a timing diagram of characters. */
+/* diagram.h: recordings as a timing diagram of characters. */
 #ifndef DIAGRAM_H
 #define DIAGRAM_H
 
@@ -17,11 +17,15 @@ struct diagram {
 unsigned diagram_columns(void);
 
 /*
- * Draws what ran; nothing if no cycle did. Every line begins with a blank, which no
- * answer does, so that both can be told apart. The time is that of the first cycle,
- * counted from the script's first one.
+ * Draws what a command ran; nothing if no cycle did. Every line begins with a blank,
+ * which no answer does, so that both can be told apart. The time is that of the first
+ * cycle, counted from the script's first one.
  */
 void diagram_draw(const struct diagram *diagram, const struct bench *bench, uint64_t time,
                   FILE *out);
+
+/* Draws the output lines of one recording in the same way; it has a cycle, but no device. */
+void diagram_draw_recording(const struct diagram *diagram, const struct recording *recording,
+                            uint64_t time, FILE *out);
 
 #endif

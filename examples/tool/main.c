@@ -1,8 +1,9 @@
 /*
  * pl022: runs a script of register accesses and cycles on two models of the PL022
- * serial port. docs/SCRIPTS.md describes the scripts and the switches.
+ * serial port, or draws a recording. docs/SCRIPTS.md describes the scripts and the switches.
  */
 #include <errno.h>
+#include <inttypes.h>
 #include <signal.h>
 #include <stdlib.h>
 
@@ -11,8 +12,12 @@
 #include "command.h"
 #include "diagram.h"
 #include "options.h"
+#include "recorder.h"
 #include "script.h"
+#include "text.h"
 #include "vcd.h"
+
+static const char record_refused[] = "the library refuses a record that it made";
 
 struct session {
     const struct options *options;
@@ -20,12 +25,13 @@ struct session {
     struct bench bench;
     struct diagram diagram;
     struct vcd vcd;
+    struct recorder recorder;
     uint64_t time; /* cycles so far */
 };
 
 static enum status bad_script(const struct session *session, const char *message)
 {
-    fprintf(stderr, "pl022: %s:%lu: %s\n", options_script_name(session->options),
+    fprintf(stderr, "pl022: %s:%lu: %s\n", options_input_name(session->options),
             session->script.number, message);
     return STATUS_WRONG;
 }
@@ -52,24 +58,41 @@ static enum status flush_answers(void)
     return STATUS_FILES;
 }
 
-static enum status carry_out(struct session *session, const struct command *command)
+/* A record that the library made and then refuses, or no memory: neither is the script's fault. */
+static enum status give_up(const char *reason)
+{
+    fprintf(stderr, "pl022: %s\n", reason);
+    return STATUS_FILES;
+}
+
+static enum status print_answer(struct session *session, const struct command *command)
 {
     errno = 0;
     switch (answer(command, &session->bench, stdout)) {
     case ANSWER_NO_MEMORY:
-        fputs("pl022: out of memory\n", stderr);
-        return STATUS_FILES;
+        return give_up("out of memory");
     case ANSWER_PAIR_REFUSED:
-        fputs("pl022: the library refuses a record that it made\n", stderr);
-        return STATUS_FILES;
+        return give_up(record_refused);
     case ANSWER_GIVEN:
         break;
     }
     if (session->options->diagram) {
         diagram_draw(&session->diagram, &session->bench, session->time, stdout);
     }
-    if (flush_answers() != STATUS_DONE) {
+    return flush_answers();
+}
+
+/* The recorder repeats the command afterwards, so that no answer depends on it. */
+static enum status carry_out(struct session *session, const struct command *command)
+{
+    if (session->recorder.file != NULL) {
+        recorder_prepare(&session->recorder, &session->bench);
+    }
+    if (print_answer(session, command) != STATUS_DONE) {
         return STATUS_FILES;
+    }
+    if (session->recorder.file != NULL && !recorder_add(&session->recorder, &session->bench)) {
+        return give_up(record_refused);
     }
     if (session->vcd.file != NULL) {
         vcd_add(&session->vcd, &session->bench);
@@ -107,7 +130,7 @@ static enum status run_script(struct session *session)
         case SCRIPT_LINE_TOO_LONG:
             return line_too_long(session);
         case SCRIPT_FAILED:
-            options_file_message(options_script_name(session->options), errno);
+            options_file_message(options_input_name(session->options), errno);
             return STATUS_FILES;
         case SCRIPT_END:
             return STATUS_DONE;
@@ -115,26 +138,78 @@ static enum status run_script(struct session *session)
     }
 }
 
-/* Ends the dump also after a bad script: it holds the cycles up to there. */
+static enum status end_vcd(struct session *session)
+{
+    if (session->vcd.file == NULL) {
+        return STATUS_DONE;
+    }
+    vcd_end(&session->vcd);
+    if (session->vcd.error != 0) {
+        options_file_message(session->options->output[OUTPUT_VCD], session->vcd.error);
+        return STATUS_FILES;
+    }
+    return STATUS_DONE;
+}
+
+static enum status end_text(struct session *session)
+{
+    const char *name = session->options->output[OUTPUT_TEXT];
+    struct recorder *recorder = &session->recorder;
+    if (recorder->file == NULL) {
+        return STATUS_DONE;
+    }
+    recorder_end(recorder);
+    if (recorder->refusal != PL022_DONE) {
+        fprintf(stderr, "pl022: %s: refused with %" PRIu64 ": %s\n", name, recorder->refusal,
+                text_refusal(recorder->refusal));
+        return STATUS_FILES;
+    }
+    if (recorder->error != 0) {
+        options_file_message(name, recorder->error);
+        return STATUS_FILES;
+    }
+    return STATUS_DONE;
+}
+
+/* Ends dump and text also after a bad script: they hold the cycles up to there. */
 static enum status run_session(struct session *session)
 {
+    FILE *files[OUTPUTS];
+    if (!options_open_outputs(session->options, session->script.file, files)) {
+        return STATUS_FILES;
+    }
     bench_begin(&session->bench);
-    if (session->options->vcd != NULL) {
-        FILE *file = options_open_vcd(session->options, session->script.file);
-        if (file == NULL) {
-            return STATUS_FILES;
-        }
-        vcd_begin(&session->vcd, file, &session->bench);
+    if (files[OUTPUT_VCD] != NULL) {
+        vcd_begin(&session->vcd, files[OUTPUT_VCD], &session->bench);
+    }
+    if (files[OUTPUT_TEXT] != NULL) {
+        recorder_begin(&session->recorder, files[OUTPUT_TEXT]);
     }
     enum status status = run_script(session);
-    if (session->vcd.file != NULL) {
-        vcd_end(&session->vcd);
-    }
-    if (session->vcd.error != 0) {
-        options_file_message(session->options->vcd, session->vcd.error);
-        status = STATUS_FILES;
-    }
+    enum status vcd_status = end_vcd(session);
+    enum status text_status = end_text(session);
+    bool ended = vcd_status == STATUS_DONE && text_status == STATUS_DONE;
+    return ended ? status : STATUS_FILES;
+}
+
+static enum status answer_script(const struct options *options, FILE *script)
+{
+    struct session session = {
+        .options = options,
+        .script = {.file = script},
+        .diagram = {.ascii = options->ascii, .columns = diagram_columns()},
+    };
+    enum status status = run_session(&session);
+    script_free(&session.script);
+    bench_free(&session.bench);
     return status;
+}
+
+static enum status draw_text(const struct options *options, FILE *file)
+{
+    struct diagram diagram = {.ascii = options->ascii, .columns = diagram_columns()};
+    enum status status = text_draw(file, options_input_name(options), &diagram, stdout);
+    return status == STATUS_DONE ? flush_answers() : status;
 }
 
 int main(int count, char **words)
@@ -151,20 +226,14 @@ int main(int count, char **words)
         options_usage(stdout);
         return (int)flush_answers();
     }
-    FILE *script = options_open_script(&options);
-    if (script == NULL) {
+    FILE *file = options_open_input(&options);
+    if (file == NULL) {
         return STATUS_FILES;
     }
-    struct session session = {
-        .options = &options,
-        .script = {.file = script},
-        .diagram = {.ascii = options.ascii, .columns = diagram_columns()},
-    };
-    enum status status = run_session(&session);
-    script_free(&session.script);
-    bench_free(&session.bench);
-    if (script != stdin) {
-        fclose(script);
+    enum status status = options.draws_text ? draw_text(&options, file)
+                                            : answer_script(&options, file);
+    if (file != stdin) {
+        fclose(file);
     }
     return (int)status;
 }

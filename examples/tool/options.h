@@ -8,12 +8,16 @@
 /* The tool's exit statuses. */
 enum status { STATUS_DONE = 0, STATUS_FILES = 1, STATUS_WRONG = 2 };
 
+/* The files that a script's cycles are written to. */
+enum output { OUTPUT_VCD, OUTPUT_TEXT, OUTPUTS };
+
 struct options {
     bool help;
     bool diagram;
     bool ascii;
-    const char *vcd;    /* file name, or NULL */
-    const char *script; /* file name, or NULL for standard input */
+    bool draws_text;             /* the input is a text to be drawn, not a script */
+    const char *output[OUTPUTS]; /* file names, or NULL */
+    const char *input;           /* file name, or NULL for standard input */
 };
 
 /* False after a message with the usage on standard error. */
@@ -27,17 +31,19 @@ void options_usage(FILE *out);
  */
 void options_hold_descriptors(void);
 
-/* The name of the script in messages. */
-const char *options_script_name(const struct options *options);
+/* The name of the script or text in messages. */
+const char *options_input_name(const struct options *options);
 
 /* NULL after a message. */
-FILE *options_open_script(const struct options *options);
+FILE *options_open_input(const struct options *options);
 
 /*
- * Opens the dump for writing. NULL after a message, also when the file is the script
- * or receives the answers: writing would destroy either.
+ * Opens the files that are named for writing, and leaves NULL for the others. False after
+ * a message, also when a file is the script, receives the answers or is named twice:
+ * writing would destroy what is in it. Then no file that was there is changed; one that
+ * was missing may stay, empty.
  */
-FILE *options_open_vcd(const struct options *options, FILE *script);
+bool options_open_outputs(const struct options *options, FILE *script, FILE *files[OUTPUTS]);
 
 /* Prints a message about a file and the reason, an errno value; 0 if none was left. */
 void options_file_message(const char *name, int reason);

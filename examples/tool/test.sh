@@ -2,8 +2,9 @@
 # Tests the tool: test.sh TOOL [OTHER]
 #
 # OTHER is a program that reads the commands of a script on standard input and gives the
-# same answers; if it is given, its answers are compared as well. VECTORS in the
-# environment may name a folder of scripts NN.in with their answers NN.out.
+# same answers, and with --text FILE the same text; if it is given, both are compared as
+# well. VECTORS in the environment may name a folder of scripts NN.in with their answers
+# NN.out.
 set -eu
 LC_ALL=C
 export LC_ALL
@@ -35,6 +36,7 @@ trap 'rm -rf "$dir"' EXIT
 trap 'exit 1' HUP INT TERM
 
 : >"$dir/vcd"
+: >"$dir/text"
 
 checks=0
 failures=0
@@ -64,15 +66,22 @@ commands_of() {
     tr -d '\r' <"$1" | sed -e '/^[[:blank:]]*#/d' -e '/^[[:blank:]]*$/d'
 }
 
-# like_other NAME SCRIPT ANSWERS
+# like_other NAME SCRIPT ANSWERS: the answers, and the text of the master's cycles. A text
+# that cannot be written is an empty file, or none.
 like_other() {
     [ -n "$other" ] || return 0
     commands_of "$2" >"$dir/commands"
-    "$other" <"$dir/commands" >"$dir/other" || true
+    : >"$dir/other.text"
+    "$other" --text "$dir/other.text" <"$dir/commands" >"$dir/other" 2>"$dir/err" || true
     check "$1 against the other program" same "$3" "$dir/other"
+    run --text "$dir/text" "$2"
+    check "$1: text against the other program" same "$dir/text" "$dir/other.text"
     compared=$((compared + 1))
 }
 compared=0
+
+takes_text() { "$other" --text "$dir/other.text" </dev/null >"$dir/other" 2>&1; }
+[ -z "$other" ] || check "the other program takes --text" takes_text
 
 # ---------------------------------------------------------------- decoders
 
@@ -137,8 +146,9 @@ expected_cycles() {
 }
 
 # rows_of_diagram FILE: device, output and input (- if not drawn) of each cycle drawn.
+# rows_of_diagram FILE text: the same of a text, with the device - and the lines of times.
 rows_of_diagram() {
-    awk '
+    awk -v text="${2-}" '
     function level(name, k, edge, flat, now) {
         edge = substr(row[name], 2 * k - 1, 1)
         flat = substr(row[name], 2 * k, 1)
@@ -146,6 +156,7 @@ rows_of_diagram() {
         if (edge != flat && edge != (now ? "/" : "\\")) print "wrong edge"
         if ((device name) in before && (before[device name] != now) != (edge != flat))
             print "edge does not fit the level before"
+        if (text && !((device name) in before) && edge != flat) print "edge in the first cycle"
         if (index("." quote, flat) && (name != "TXD" || substr(row["nSSPOE"], 2 * k, 1) != "-"))
             print "dots on a driven line"
         if (name == "TXD" && substr(row["nSSPOE"], 2 * k, 1) == "-" && !index("." quote, flat))
@@ -154,11 +165,12 @@ rows_of_diagram() {
         return now
     }
     BEGIN { quote = sprintf("%c", 39) }
+    /^  time/ && text { print; next }
     /^  time/ { split("", before); next }
     /^  cycle/ { next }
-    /^  [01] / {
-        device = substr($0, 3, 1)
-        name = substr($0, 5, 7)
+    text ? /^  (CLK|FSS|TXD|nSSPOE) / : /^  [01] / {
+        device = text ? "-" : substr($0, 3, 1)
+        name = text ? substr($0, 3, 9) : substr($0, 5, 7)
         sub(/ +$/, "", name)
         row[name] = substr($0, 12)
         if (name != "nSSPOE") next
@@ -173,6 +185,50 @@ rows_of_diagram() {
         next
     }
     /^ / { print "unknown line" }' "$1"
+}
+
+# text_of_diagram FILE: the text that was drawn, a line for each diagram.
+text_of_diagram() {
+    rows_of_diagram "$1" text | awk '
+    function end_line() {
+        if (line == "") return
+        print line
+        if (length(line) != due) print "wrong number of cycles"
+        line = ""
+    }
+    /^  time/ {
+        end_line()
+        due = $3
+        if ($0 != "  time " (cycles + 0) ", " due (due == 1 ? " cycle" : " cycles")) print "wrong time"
+        next
+    }
+    NF == 3 && $1 == "-" && $3 == "-" { line = line toupper($2); cycles++; next }
+    { print }
+    END { end_line() }'
+}
+
+# expected_digits SCRIPT ANSWERS: the digits of the text, from the commands and their
+# answers; 13 if they are too many.
+expected_digits() {
+    commands_of "$1" | awk -v answers="$2" '
+    function bit(d, weight) { return int(cr1[d] / weight) % 2 }
+    function ran(d, output) {
+        if (output == "-" || bit(d, 4)) return
+        digits[d] = digits[d] output
+        if (master == "" && bit(d, 2)) master = d
+    }
+    { getline answer <answers; split(answer, a, " ") }
+    $1 == "reset" { cr1[$2] = 0 }
+    $1 == "w" && $3 ~ /^0*4$/ && a[1] == 0 {
+        cr1[$2] = index("0123456789abcdef", tolower(substr($4, length($4)))) - 1
+    }
+    $1 == "run" && a[1] == 0 { ran($2, a[2]) }
+    $1 == "idle" && a[1] == 0 { ran($2, a[3]) }
+    $1 == "pair" { ran(0, a[1]); ran(1, a[2]) }
+    END {
+        all = master == "" ? "" : toupper(digits[master])
+        printf "%s", (length(all) > 4096 ? 13 : all)
+    }'
 }
 
 # expected_rows SCRIPT ANSWERS: the same from the commands and their answers.
@@ -217,6 +273,40 @@ pictures() {
     ascii_of "$dir/out" >"$dir/got"
     check "$1: both diagrams are one" same "$dir/ascii" "$dir/got"
 }
+
+# texts NAME SCRIPT ANSWERS: the text holds what the answers say, and is drawn as it is.
+texts() {
+    run --text "$dir/text" "$2"
+    check "$1: answers with --text" same "$3" "$dir/out"
+    expected_digits "$2" "$3" >"$dir/want"
+    if [ "$(cat "$dir/want")" = 13 ]; then
+        check "$1: too long for a text: status" equal "$status" 1
+        check "$1: too long for a text: message" equal "$(cat "$dir/err")" \
+            "pl022: $dir/text: refused with 13: more than 4096 cycles"
+        check "$1: too long for a text: empty" [ ! -s "$dir/text" ]
+        return
+    fi
+    check "$1: status with --text" equal "$status" 0
+    check "$1: no message with --text" equal "$(cat "$dir/err")" ""
+    tr -d '\n' <"$dir/text" >"$dir/got"
+    check "$1: cycles of the text" same "$dir/want" "$dir/got"
+    drawn "$1" "$dir/text"
+}
+
+# drawn NAME TEXT: both drawings of a text show it.
+drawn() {
+    run text --ascii "$2"
+    cp "$dir/out" "$dir/ascii"
+    check "$1: status of the drawing" equal "$status" 0
+    check "$1: no message with the drawing" equal "$(cat "$dir/err")" ""
+    text_of_diagram "$dir/ascii" >"$dir/got"
+    check "$1: the drawing shows the text" same "$2" "$dir/got"
+    run text "$2"
+    ascii_of "$dir/out" >"$dir/got"
+    check "$1: both drawings are one" same "$dir/ascii" "$dir/got"
+    drawings=$((drawings + 1))
+}
+drawings=0
 
 # ---------------------------------------------------------------- the recordings P1 to P5
 
@@ -311,6 +401,8 @@ if [ -n "${VECTORS-}" ] && [ -d "$VECTORS" ]; then
         check "vector $script: status" equal "$status" 0
         run - <"$script"
         check "vector $script from standard input" same "${script%.in}.out" "$dir/out"
+        texts "vector $script" "$script" "${script%.in}.out"
+        like_other "vector $script" "$script" "${script%.in}.out"
         vectors=$((vectors + 1))
     done
 fi
@@ -438,6 +530,375 @@ for columns in '' 0 39 1001 x 80x -80 ' 90' 99999999999999999999; do
     check "COLUMNS '$columns' is not sane" same "$dir/want" "$dir/out"
 done
 
+# ---------------------------------------------------------------- recordings as text
+
+# repeated CHARACTERS COUNT: COUNT times 65,536 bytes or more of the characters.
+repeated() {
+    awk -v s="$1" -v count="$2" 'BEGIN {
+        while (length(s) < 65536) s = s s
+        for (n = 0; n < count; n++) printf "%s", s
+    }'
+}
+
+# lines_are NAME SCRIPT LINES: the lines of a script's text, each ended by a semicolon here.
+lines_are() {
+    run "$2"
+    cp "$dir/out" "$dir/answers"
+    texts "$1" "$2" "$dir/answers"
+    check "$1: lines of the text" equal "$(tr '\n' ';' <"$dir/text")" "$3"
+    like_other "$1" "$2" "$dir/answers"
+    lines=$((lines + 1))
+}
+lines=0
+
+# text_is NAME FORMAT LINES: the same of a script given as for printf.
+text_is() {
+    printf "$2" >"$dir/script"
+    lines_are "$1" "$dir/script" "$3"
+}
+
+# cycles NUMBER: inputs, all LOW.
+cycles() { printf "%0$1d" 0; }
+
+# slots NUMBER DIGITS: each digit as often as a slot has cycles.
+slots() {
+    awk -v n="$1" -v digits="$2" 'BEGIN {
+        for (k = 1; k <= length(digits); k++)
+            for (c = 0; c < n; c++) printf "%s", substr(digits, k, 1)
+    }'
+}
+
+# idle_line NUMBER: so many idle cycles of Motorola.
+idle_line() { cycles "$1" | tr 0 A; }
+
+for script in "$scripts"/*.txt; do
+    run "$script"
+    cp "$dir/out" "$dir/answers"
+    texts "$script" "$script" "$dir/answers"
+    like_other "$script" "$script" "$dir/answers"
+done
+
+# The papers' words, a line each.
+A_SPH0=0450145010AA
+B_SPH0=0014501454AA
+A_TI=BA54105410
+lines_are "text of p1" "$scripts/p1.txt" "$A_SPH0;"
+lines_are "text of p2" "$scripts/p2.txt" "0541054100AA;"
+lines_are "text of p3" "$scripts/p3.txt" "$A_TI;"
+lines_are "text of p4" "$scripts/p4.txt" "BA541054;3210541054;"
+lines_are "text of p5" "$scripts/p5.txt" "4501450101450145""89898989898AA;"
+lines_are "text of two_sph0" "$scripts/two_sph0.txt" "$A_SPH0;$B_SPH0;"
+lines_are "text of two_sph1" "$scripts/two_sph1.txt" "054105410;105410544AA;"
+lines_are "text of wired" "$scripts/wired.txt" \
+    "AAAA;$(slots 6 05454101010541054);$(slots 6 10105454541054100AA);"
+for script in motorola ti microwire; do
+    lines_are "text of a slave, $script" "$scripts/slave_$script.txt" ""
+done
+
+# Several words, slots of one cycle and of more.
+three='w 0 8 a\nw 0 8 5\nw 0 8 a\nw 0 4 2\n'
+text_is "SPH 0, three words" "w 0 10 2\nw 0 0 3\n${three}run 0 $(cycles 36)\n" \
+    "$A_SPH0;$B_SPH0;$A_SPH0;"
+text_is "SPH 0, three words, h 2" "w 0 10 4\nw 0 0 3\n${three}run 0 $(cycles 72)\n" \
+    "$(slots 2 $A_SPH0);$(slots 2 $B_SPH0);$(slots 2 $A_SPH0);"
+text_is "SPH 1, three words" "w 0 10 2\nw 0 0 83\n${three}run 0 $(cycles 28)\n" \
+    "054105410;10541054;541054100AA;"
+text_is "SPH 1, three words, h 3" "w 0 10 2\nw 0 0 283\n${three}run 0 $(cycles 84)\n" \
+    "$(slots 3 054105410);$(slots 3 10541054);$(slots 3 541054100AA);"
+text_is "TI, three words" \
+    "w 0 10 2\nw 0 0 13\nw 0 8 a\nw 0 8 5\nw 0 8 3\nw 0 4 2\nrun 0 $(cycles 26)\n" \
+    "BA541054;32105410;7610105454;"
+text_is "TI, two words, h 2" "w 0 10 4\nw 0 0 13\nw 0 8 a\nw 0 8 5\nw 0 4 2\npair 36\n" \
+    "$(slots 2 BA541054);$(slots 2 3210541054);"
+control='w 0 8 a5\nw 0 8 3c\nw 0 8 ff\nw 0 4 2\n'
+text_is "Microwire, three words" "w 0 10 2\nw 0 0 23\n${control}run 0 $(cycles 81)\n" \
+    "4501450101450145""8989898989;0101454545450101""8989898989;4545454545454545""89898989898AA;"
+text_is "Microwire, b 8, h 5" "w 0 10 a\nw 0 0 27\nw 0 8 a5\nw 0 8 3c\nw 0 4 2\nrun 0 $(cycles 355)\n" \
+    "$(slots 5 "4501450101450145""898989898989898989");$(slots 5 "0101454545450101""8989898989898989898AA");"
+
+# Cycles before the first word: disabled, with other idle lines, and enabled.
+text_is "idle before the first word" \
+    "w 0 10 2\nw 0 0 3\nw 0 4 2\nrun 0 000\nw 0 8 a\nrun 0 $(cycles 12)\n" "AAA;$A_SPH0;"
+text_is "disabled before the first word" \
+    "run 0 00\nw 0 10 2\nw 0 0 43\nrun 0 0\nw 0 8 a\nrun 0 0\nw 0 4 2\nrun 0 $(cycles 12)\n" \
+    "AABB;1541054101BB;"
+text_is "TI, idle on both sides" \
+    "w 0 10 2\nw 0 0 13\nrun 0 00\nw 0 8 a\nw 0 4 2\nrun 0 $(cycles 10)\nrun 0 000\n" \
+    "88;${A_TI}888;"
+text_is "a master without a word" 'w 0 10 2\nw 0 0 3\nw 0 4 2\nrun 0 00000\n' 'AAAAA;'
+text_is "a word written during a frame" \
+    "w 0 10 2\nw 0 0 3\nw 0 8 a\nw 0 4 2\nrun 0 000\nw 0 8 5\nrun 0 $(cycles 21)\n" "$A_SPH0;$B_SPH0;"
+
+# A run to idle ends in the first idle slot of a word; the second follows with the next run.
+p1='w 0 10 2\nw 0 0 3\nw 0 8 a\nw 0 4 2\n'
+text_is "run to idle" "${p1}idle 0 $(cycles 30)\n" '0450145010A;'
+text_is "two runs to idle" "${p1}idle 0 $(cycles 30)\nw 0 8 5\nidle 0 $(cycles 30)\n" \
+    "$A_SPH0;0014501454A;"
+text_is "run to idle of an idle master" "${p1}idle 0 $(cycles 30)\nidle 0 0000\nrun 0 0\n" "$A_SPH0;"
+
+# Which device, and which cycles of it.
+p4_1='w 1 10 2\nw 1 0 13\nw 1 8 a\nw 1 8 5\nw 1 4 2\n'
+text_is "device 1 is the master" "${p4_1}run 1 $(cycles 18)\n" 'BA541054;3210541054;'
+text_is "device 1 is the master of a pair" \
+    "w 0 10 2\nw 0 0 13\nw 0 4 6\npair 2\n${p4_1}pair 18\n" 'AA;BA541054;3210541054;'
+text_is "two masters in a pair" "$p1${p4_1}pair 12\nrun 1 0\n" "$A_SPH0;"
+text_is "device 1 is a master first" "$p1${p4_1}run 1 0\npair 17\n" 'BA541054;3210541054;'
+text_is "a run of no cycles makes no master" "$p1${p4_1}run 0 -\nidle 0 -\npair 0\nrun 1 $(cycles 18)\n" \
+    'BA541054;3210541054;'
+text_is "a refused run makes no master" "$p1${p4_1}run 0 08\nidle 0 8\nrun 1 $(cycles 18)\n" \
+    'BA541054;3210541054;'
+text_is "the other device's cycles" "${p1}run 0 000\nrun 1 0000\nrun 0 $(cycles 9)\nreset 1\n" "$A_SPH0;"
+text_is "cycles as a slave are left out" \
+    "${p1}run 0 $(cycles 12)\nw 0 4 0\nw 0 4 4\nrun 0 000\npair 5\nw 0 4 6\nrun 0 22\nw 0 4 4\nw 0 4 0\nrun 0 0\n" \
+    "${A_SPH0}A;"
+text_is "reset in the middle" \
+    "w 0 10 2\nw 0 0 3\nw 0 8 a\nw 0 8 5\nw 0 8 5\nw 0 4 2\nrun 0 00000\nreset 0\nrun 0 00\nw 0 10 2\nw 0 0 13\nw 0 8 a\nw 0 4 2\nrun 0 $(cycles 10)\n" \
+    "04501AA;$A_TI;"
+text_is "disabled in the middle" "${p1}w 0 8 5\nrun 0 00000\nw 0 4 0\nrun 0 00\nw 0 4 2\nrun 0 $(cycles 12)\n" \
+    "04501AA;$B_SPH0;"
+text_is "no device, no cycles" 'r 0 c\npair 3\nw 0 8 1\nw 1 4 4\npair 2\n' ''
+
+# 4,096 cycles fit, and one more does not. Cycles of others than the master do not count.
+on='w 0 10 2\nw 0 0 3\nw 0 4 2\n'
+text_is "4,096 cycles" "${on}pair 4096\n" "$(idle_line 4096);"
+text_is "4,096 cycles in parts" "${on}pair 4000\nrun 0 $(cycles 84)\nw 0 8 a\nrun 0 $(cycles 12)\n" \
+    "$(idle_line 4084);$A_SPH0;"
+text_is "4,097 cycles" "${on}pair 4097\n" ''
+text_is "4,097 cycles in parts" "${on}pair 4000\nrun 0 $(cycles 84)\nw 0 8 a\nrun 0 $(cycles 12)\nrun 0 0\n" ''
+text_is "a million cycles" "${on}pair 1000000\n" ''
+text_is "4,097 cycles, most of them disabled" "pair 4096\n${on}run 0 0\n" ''
+text_is "4,097 cycles of no master" 'pair 4097\n' ''
+text_is "many cycles of another device" "run 0 $(cycles 5000)\n${p4_1}run 1 $(cycles 18)\n" \
+    'BA541054;3210541054;'
+text_is "many cycles as a slave" "w 0 4 4\npair 4000\nrun 0 $(cycles 5000)\n${p1}run 0 $(cycles 12)\n" "$A_SPH0;"
+
+# After a bad line the text holds the cycles up to there.
+cat "$scripts/p4.txt" >"$dir/script"
+echo 'frob' >>"$dir/script"
+run --text "$dir/text" "$dir/script"
+check "text up to a bad line: status" equal "$status" 2
+check "text up to a bad line" equal "$(tr '\n' ';' <"$dir/text")" 'BA541054;3210541054;'
+printf "${on}pair 4097\nfrob\n" >"$dir/script"
+run --text "$dir/text" "$dir/script"
+check "too long a text before a bad line: status" equal "$status" 1
+check "too long a text before a bad line: messages" equal "$(wc -l <"$dir/err" | tr -d ' ')" 2
+
+# The page about scripts shows the text of p4 and its drawing.
+printf 'BA541054\n3210541054\n' >"$dir/p4"
+run text --ascii "$dir/p4"
+cat >"$dir/want" <<'END'
+  time 0, 8 cycles
+  cycle    0         5
+  CLK      --\_/-\_/-\_/-\_
+  FSS      ----\___________
+  TXD      ..../---\___/---
+  nSSPOE   ----\___________
+  time 8, 10 cycles
+  cycle    0         5
+  CLK      /-\_/-\_/-\_/-\_/-\_
+  FSS      /---\_______________
+  TXD      \_______/---\___/---
+  nSSPOE   ____________________
+END
+check "p4: the drawing of the text" same "$dir/want" "$dir/out"
+page=$(dirname "$0")/../../docs/SCRIPTS.md
+if [ -e "$page" ]; then
+    sed -n '/^  time 0, 8 cycles$/,/^```$/p' "$page" | sed '/^```$/d' >"$dir/shown"
+    ascii_of "$dir/shown" >"$dir/got"
+    check "p4: the drawing in the documentation" same "$dir/want" "$dir/got"
+    sed -n '/^BA541054$/,/^```$/p' "$page" | sed '/^```$/d' >"$dir/got"
+    check "p4: the text in the documentation" same "$dir/p4" "$dir/got"
+fi
+
+# Texts that are read as they are: every digit, one cycle, the longest.
+text_drawn() {
+    printf "$2" >"$dir/text"
+    drawn "$1" "$dir/text"
+}
+text_drawn "every digit" '0123456789ABCDEF\nFEDCBA9876543210\n'
+text_drawn "every line of one cycle" 'A\n0\nF\nF\n'
+text_drawn "empty text" ''
+check "empty text: nothing is drawn" equal "$(cat "$dir/out")" ""
+text_drawn "4,096 cycles in a line" "$(idle_line 4096)\n"
+awk 'BEGIN { while (n++ < 4096) print "A" }' >"$dir/longest"
+cp "$dir/longest" "$dir/text"
+check "4,096 lines: as long as a text can be" equal "$(wc -c <"$dir/text" | tr -d ' ')" 8192
+drawn "4,096 lines" "$dir/text"
+for columns in 40 79 132 1000; do
+    status=0
+    run --text "$dir/text" "$scripts/wired.txt"
+    COLUMNS=$columns "$tool" text --ascii "$dir/text" >"$dir/out" || status=$?
+    check "text at $columns columns: status" equal "$status" 0
+    check "text at $columns columns" awk -v columns="$columns" 'length($0) > columns { exit 1 }' "$dir/out"
+    text_of_diagram "$dir/out" >"$dir/got"
+    check "text at $columns columns: cycles" same "$dir/text" "$dir/got"
+done
+
+# not_read NUMBER LINE COLUMN FILE: refused at that place, with nothing drawn.
+not_read() {
+    run text "$4"
+    case $1 in
+    13) meaning='more than 4096 cycles' ;;
+    17) meaning='a character other than 0 to 9, A to F and the line feed' ;;
+    18) meaning='a line without a cycle' ;;
+    19) meaning='the text does not end with a line feed' ;;
+    esac
+    check "refused text $1 at $2:$3: message" equal "$(cat "$dir/err")" \
+        "pl022: $4:$2:$3: refused with $1: $meaning"
+    check "refused text $1 at $2:$3: status" equal "$status" 2
+    check "refused text $1 at $2:$3: nothing drawn" equal "$(cat "$dir/out")" ""
+    refused=$((refused + 1))
+}
+refused=0
+
+# refused_at NUMBER LINE COLUMN FORMAT: a text given as for printf.
+refused_at() {
+    printf "$4" >"$dir/text"
+    not_read "$1" "$2" "$3" "$dir/text"
+}
+
+refused_at 17 1 1 'x\n'
+refused_at 17 1 1 'a\n'
+refused_at 17 1 1 ' A\n'
+refused_at 17 1 2 'Ab\n'
+refused_at 17 1 2 'AG\n'
+refused_at 17 1 2 '0\000\n'
+refused_at 17 1 2 '0\377\n'
+refused_at 17 1 2 '0/\n'
+refused_at 17 1 2 '0:\n'
+refused_at 17 1 2 '0@\n'
+refused_at 17 1 3 'AB\r\nCD\r\n'
+refused_at 17 2 1 'AB\n\r\n'
+refused_at 17 2 1 'A\n\000\n'
+refused_at 17 2 3 'A\nBCd\nE\n'
+refused_at 17 3 2 'A\nB\nC\tD\n'
+refused_at 17 3 3 'A\nB\nCC \n'
+refused_at 17 3 1 'A\nB\n#'
+refused_at 17 3 2 'A\nB\nCc'
+refused_at 18 1 1 '\n'
+refused_at 18 1 1 '\nA\n'
+refused_at 18 1 1 '\n\n\n'
+refused_at 18 2 1 'A\n\nB\n'
+refused_at 18 3 1 'A\nB\n\n'
+refused_at 18 3 1 'A\nB\n\nC'
+refused_at 19 1 2 'A'
+refused_at 19 1 5 '0123'
+refused_at 19 2 2 'A\nB'
+refused_at 19 3 4 'A\nB\nCDE'
+
+# The first place decides.
+refused_at 17 1 1 'x\n\nA'
+refused_at 18 1 1 '\nx\nA'
+refused_at 17 2 2 'A\nBx\n\nC'
+refused_at 18 2 1 'A\n\nx\nC'
+
+# One digit too many, in the first and in the last line, and what may stand in its place.
+full=$(idle_line 4096)
+refused_at 13 1 4097 "${full}A\n"
+refused_at 13 1 4097 "${full}A"
+refused_at 13 1 4097 "${full}0x\n\n"
+refused_at 13 2 1 "$full\nA\n"
+refused_at 13 2 1 "$full\nAx"
+refused_at 17 1 4097 "${full}x\n"
+refused_at 17 2 1 "$full\nx\n"
+refused_at 18 2 1 "$full\n\nA"
+refused_at 19 1 4097 "$full"
+refused_at 17 1 4096 "${full%A}xA\n"
+
+# Behind the longest text, and far beyond it.
+longest() {
+    { cat "$dir/longest"; printf "$4"; } >"$dir/text"
+    not_read "$1" "$2" "$3" "$dir/text"
+}
+longest 13 4097 1 'A'
+longest 13 4097 1 'A\nB\n'
+longest 17 4097 1 'x'
+longest 17 4097 1 '\000\n'
+longest 18 4097 1 '\n'
+repeated A 16 >"$dir/long"
+not_read 13 1 4097 "$dir/long"
+repeated '\n' 16 >"$dir/long"
+not_read 18 1 1 "$dir/long"
+repeated 'A\n' 16 >"$dir/long"
+not_read 13 4097 1 "$dir/long"
+repeated '5\r\n' 16 >"$dir/long"
+not_read 17 1 2 "$dir/long"
+{ echo BA541054; repeated '#' 16; } >"$dir/long"
+not_read 17 2 1 "$dir/long"
+if [ -c /dev/zero ]; then
+    not_read 17 1 1 /dev/zero
+fi
+rm -f "$dir/long"
+
+# A text with a character too many, with a line feed too many, and cut short, at every place.
+awk -v dir="$dir" 'BEGIN {
+    text = "BA541054\n3210541054\n7\n"
+    for (at = 0; at <= length(text); at++) {
+        before = substr(text, 1, at)
+        behind = substr(text, at + 1)
+        line = gsub(/\n/, "&", before) + 1
+        place = before
+        sub(/.*\n/, "", place)
+        column = length(place) + 1
+        begins = column == 1
+        ends = substr(behind, 1, 1) == "\n"
+        printf "%s", before "x" behind >(dir "/place.x" at)
+        print 17, line, column, "x" at
+        printf "%s", before "\n" behind >(dir "/place.n" at)
+        if (begins) print 18, line, column, "n" at
+        else if (ends) print 18, line + 1, 1, "n" at
+        else print 0, 0, 0, "n" at
+        printf "%s", before >(dir "/place.c" at)
+        if (begins) print 0, 0, 0, "c" at
+        else print 19, line, column, "c" at
+    }
+}' >"$dir/places"
+while read -r number line column place; do
+    if [ "$number" -eq 0 ]; then
+        drawn "text with a change at $place" "$dir/place.$place"
+    else
+        not_read "$number" "$line" "$column" "$dir/place.$place"
+    fi
+done <"$dir/places"
+
+# From standard input, by both names.
+for given in '' -; do
+    status=0
+    "$tool" text --ascii $given <"$dir/p4" >"$dir/out" 2>"$dir/err" || status=$?
+    check "text from standard input '$given': status" equal "$status" 0
+    text_of_diagram "$dir/out" >"$dir/got"
+    check "text from standard input '$given'" same "$dir/p4" "$dir/got"
+    status=0
+    printf 'A\nB\r\n' | "$tool" text $given >"$dir/out" 2>"$dir/err" || status=$?
+    check "refused text from standard input '$given': status" equal "$status" 2
+    check "refused text from standard input '$given': place" grep -q '^pl022: stdin:2:2: refused with 17: ' "$dir/err"
+done
+
+# Names that are words of the command line.
+mkdir "$dir/names"
+cp "$dir/p4" "$dir/names/--ascii"
+cp "$scripts/p4.txt" "$dir/names/text"
+# named NAME WORDS...: the last run, in that folder, without a message.
+named() {
+    name=$1
+    shift
+    status=0
+    (cd "$dir/names" && "$tool_path" "$@") >"$dir/out" 2>"$dir/err" || status=$?
+    check "$name: status" equal "$status" 0
+    check "$name: no message" equal "$(cat "$dir/err")" ""
+}
+named "a script with the name text" ./text
+check "a script with the name text: answers" equal "$(sed -n '$p' "$dir/out")" '0 ba5410543210541054'
+named "a script with the name text behind --" -- text
+check "a script with the name text behind --: answers" equal "$(sed -n '$p' "$dir/out")" '0 ba5410543210541054'
+named "a text with the name of an option" text -- --ascii
+check "a text with the name of an option: drawing" equal "$(grep -c CLK "$dir/out")" 2
+cp "$dir/p4" "$dir/names/text"
+named "a text with the name text" text text
+check "a text with the name text: drawing" equal "$(grep -c CLK "$dir/out")" 2
+named "switch before the command" --ascii text text
+check "switch before the command: drawing" same "$dir/want" "$dir/out"
+
 # ---------------------------------------------------------------- bad scripts
 
 bad_scripts=0
@@ -506,13 +967,6 @@ bad 1 'too many cycles: expected 16777216 or less' 'pair 16777217\n'
 bad 1 'too many cycles' 'pair 99999999999999999999999999999999999999\n'
 bad 5 'unknown command' 'dump 0\nreset 1\n# c\n\nnonsense'
 
-# repeated FOUR COUNT: COUNT times 65,536 bytes of the four characters.
-repeated() {
-    awk -v s="$1" -v count="$2" 'BEGIN {
-        while (length(s) < 65536) s = s s
-        for (n = 0; n < count; n++) printf "%s", s
-    }'
-}
 {
     printf 'dump 0\nrun 0 '
     repeated 0123 256
@@ -552,6 +1006,18 @@ usage --diagrams
 usage --vcd
 usage --vcd -
 usage --vcd "$dir/a" --vcd "$dir/b"
+usage --text
+usage --text -
+usage --text "$dir/a" --text "$dir/b"
+usage text a b
+usage text - -
+usage text --frob
+usage text --diagram
+usage --diagram text
+usage text --vcd "$dir/a" "$dir/p4"
+usage --text "$dir/a" text "$dir/p4"
+usage text "$dir/p4" --ascii --text "$dir/a"
+check "wrong usage makes no file" [ ! -e "$dir/a" ]
 usage a b
 usage - -
 usage -- --vcd a
@@ -594,6 +1060,61 @@ check "dump into the script: the script stays" same "$scripts/p1.txt" "$dir/scri
 status=0
 "$tool" --vcd "$dir/both" "$scripts/p1.txt" >"$dir/both" 2>"$dir/err" || status=$?
 fails "dump into the answers"
+run --text "$dir/none/text" "$scripts/p1.txt"
+fails "text in a missing folder"
+check "text in a missing folder: no answer" equal "$(cat "$dir/out")" ""
+run --text "$dir" "$scripts/p1.txt"
+fails "folder as the text"
+run --text "" "$scripts/p1.txt"
+fails "text without a name"
+run --text "$dir/untouched" "$dir/missing"
+fails "text of a missing script"
+check "text of a missing script is not made" [ ! -e "$dir/untouched" ]
+run --text "$dir/script" "$dir/script"
+fails "text into the script"
+check "text into the script: the script stays" same "$scripts/p1.txt" "$dir/script"
+status=0
+"$tool" --text "$dir/both" "$scripts/p1.txt" >"$dir/both" 2>"$dir/err" || status=$?
+fails "text into the answers"
+status=0
+"$tool" --text "$dir/script" <"$dir/script" >"$dir/out" 2>"$dir/err" || status=$?
+fails "text into the script on standard input"
+check "text into the script on standard input: the script stays" same "$scripts/p1.txt" "$dir/script"
+echo kept >"$dir/kept"
+ln "$dir/kept" "$dir/kept.too"
+run --vcd "$dir/kept" --text "$dir/kept.too" "$scripts/p1.txt"
+fails "text into the dump"
+check "text into the dump: no answer" equal "$(cat "$dir/out")" ""
+check "text into the dump: the file stays" equal "$(cat "$dir/kept")" kept
+run --text "$dir/script" --vcd "$dir/kept" "$dir/script"
+fails "dump beside a text that is the script"
+check "dump beside a text that is the script: the file stays" equal "$(cat "$dir/kept")" kept
+run --vcd /dev/null --text /dev/null "$scripts/p1.txt"
+check "dump and text into no file: status" equal "$status" 0
+run --text "$dir/text" --vcd "$dir/vcd" --diagram "$scripts/p4.txt"
+check "text beside dump and diagram: status" equal "$status" 0
+check "text beside dump and diagram" same "$dir/p4" "$dir/text"
+digits=$(cycles_of_vcd "$dir/vcd" | awk '{ printf "%s", toupper($1) }')
+check "dump beside a text" equal "$digits" "$(tr -d '\n' <"$dir/p4")"
+run text "$dir/missing"
+fails "text to draw that is missing"
+run text ""
+fails "text to draw without a name"
+run text "$dir"
+fails "folder as the text to draw"
+status=0
+"$tool" text <&- >"$dir/out" 2>"$dir/err" || status=$?
+fails "text to draw on closed standard input"
+status=0
+"$tool" text "$dir/p4" >&- 2>"$dir/err" || status=$?
+fails "drawing on closed standard output"
+status=0
+"$tool" --text "$dir/text" "$scripts/p1.txt" >&- 2>"$dir/err" || status=$?
+fails "closed standard output with a text"
+check "no answer in the text" equal "$(grep -c '^0' "$dir/text" || true)" 0
+status=0
+printf 'frob\n' | "$tool" --text "$dir/text" >"$dir/out" 2>&- || status=$?
+check "no message in the text" equal "$(cat "$dir/text")" ""
 status=0
 "$tool" "$scripts/p1.txt" >&- 2>"$dir/err" || status=$?
 fails "closed standard output"
@@ -628,6 +1149,11 @@ if [ -c /dev/full ]; then
     fails "full standard output for --help"
     run --vcd /dev/full "$scripts/p1.txt"
     fails "full dump"
+    run --text /dev/full "$scripts/p1.txt"
+    fails "full text"
+    status=0
+    "$tool" text "$dir/p4" >/dev/full 2>"$dir/err" || status=$?
+    fails "full standard output for a drawing"
     printf 'pair 30000\nrun 0 00\nr 0\n' >"$dir/script"
     run --vcd /dev/full "$dir/script"
     fails "full dump of a bad script"
@@ -716,28 +1242,39 @@ BEGIN {
     }
 }'
 
-# fuzzed FILE ARGUMENTS...: status 0 or 2, and a message exactly with 2.
+# fuzzed FILE ARGUMENTS...: status 0, or 2 with a message. Too many cycles for --text are 1.
 fuzzed() {
     script=$1
     shift
     run "$@" - <"$script"
-    check "fuzz $script: status $status" equal "$status" "$((status == 2 ? 2 : 0))"
-    if [ "$status" -eq 2 ]; then
-        check "fuzz $script: message" grep -q '^pl022: stdin:[1-9][0-9]*: ' "$dir/err"
-    else
-        check "fuzz $script: no message" equal "$(cat "$dir/err")" ""
-    fi
+    case $status in
+    0) check "fuzz $script: no message" equal "$(cat "$dir/err")" "" ;;
+    1) check "fuzz $script: too long" grep -qxF \
+        "pl022: $dir/text: refused with 13: more than 4096 cycles" "$dir/err" ;;
+    2) check "fuzz $script: message" grep -q '^pl022: stdin:[1-9][0-9]*: ' "$dir/err" ;;
+    *) check "fuzz $script: status $status" false ;;
+    esac
+    fuzz=$((fuzz + 1))
+}
+
+# Read as a text a script is refused, since no command is one.
+fuzzed_text() {
+    run text <"$1"
+    check "fuzz $1 as a text: status" equal "$status" 2
+    check "fuzz $1 as a text: message" grep -q '^pl022: stdin:[1-9][0-9]*:[1-9][0-9]*: refused with 1[78]: ' "$dir/err"
     fuzz=$((fuzz + 1))
 }
 fuzz=0
 end=$(($(date +%s) + fuzz_seconds))
 for script in "$dir"/fuzz/*.mutated; do
     [ "$(date +%s)" -lt "$end" ] || break
-    case $((fuzz % 4)) in
+    case $((fuzz % 6)) in
     0) fuzzed "$script" ;;
     1) fuzzed "$script" --diagram ;;
     2) fuzzed "$script" --vcd "$dir/vcd" ;;
     3) fuzzed "$script" --diagram --ascii --vcd "$dir/vcd" ;;
+    4) fuzzed "$script" --vcd "$dir/vcd" --text "$dir/text" ;;
+    5) fuzzed_text "$script" ;;
     esac
 done
 
@@ -749,10 +1286,18 @@ check "valid scripts: status" equal "$status" 0
 check "valid scripts: an answer for each command" equal \
     "$(wc -l <"$dir/answers")" "$(wc -l <"$dir/all")"
 pictures "valid scripts" "$dir/all" "$dir/answers"
+texts "valid scripts" "$dir/all" "$dir/answers"
 like_other "valid scripts" "$dir/all" "$dir/answers"
+for script in "$dir"/fuzz/0[0-4]?.valid; do
+    run "$script"
+    cp "$dir/out" "$dir/answers"
+    texts "$script" "$script" "$dir/answers"
+    like_other "$script" "$script" "$dir/answers"
+done
 
 echo "tool: $checks checks, $failures failed;" \
-    "5 recordings, $vectors vectors, $bad_scripts bad scripts, $files file failures," \
+    "5 recordings, $vectors vectors, $bad_scripts bad scripts, $lines scripts with known text," \
+    "$drawings drawn texts, $refused refused ones, $files file failures," \
     "$fuzz fuzzed scripts (seed $seed), $(wc -l <"$dir/all" | tr -d ' ') valid commands," \
     "$compared compared with another program"
 [ "$failures" -eq 0 ]

@@ -1,6 +1,7 @@
 //! Compares the second program with the proved one, call by call.
 
-use compare::bench::Bench;
+use compare::bench::{Bench, Counts, Step};
+use compare::cases::random_text::TEXTS;
 use compare::cases::{self, Plan};
 use compare::command::Command;
 use compare::fault::Faulty;
@@ -13,7 +14,8 @@ use std::process::ExitCode;
 use std::time::Duration;
 
 const USAGE: &str = "usage: compare [--self | --fault N]
-               [--rounds N] [--least N] [--seconds N] [--seed HEX] [--trace FILE]
+               [--rounds N | --texts N] [--least N] [--least-texts N] [--seconds N]
+               [--seed HEX] [--trace FILE]
        compare [--self | --fault N] --replay < script";
 
 const SEED: u64 = 0x0022_5EED;
@@ -22,16 +24,28 @@ struct Arguments {
     fault: Option<u32>,
     itself: bool,
     replay: bool,
+    /// Texts alone.
+    texts: bool,
     trace: Option<String>,
-    /// Calls that must have been compared.
+    /// Calls on devices that must have been compared.
     least: u64,
+    /// Random texts that must have been compared.
+    least_texts: u64,
     plan: Plan,
 }
 
 fn parse(words: &[String]) -> Option<Arguments> {
     let plan = Plan { seed: SEED, rounds: 400, limit: None };
-    let mut arguments =
-        Arguments { fault: None, itself: false, replay: false, trace: None, least: 0, plan };
+    let mut arguments = Arguments {
+        fault: None,
+        itself: false,
+        replay: false,
+        texts: false,
+        trace: None,
+        least: 0,
+        least_texts: 0,
+        plan,
+    };
     let mut words = words.iter();
     while let Some(word) = words.next() {
         match word.as_str() {
@@ -40,7 +54,13 @@ fn parse(words: &[String]) -> Option<Arguments> {
             "--trace" => arguments.trace = Some(words.next()?.clone()),
             "--fault" => arguments.fault = Some(words.next()?.parse().ok()?),
             "--least" => arguments.least = words.next()?.parse().ok()?,
+            "--least-texts" => arguments.least_texts = words.next()?.parse().ok()?,
             "--rounds" => arguments.plan.rounds = words.next()?.parse().ok()?,
+            "--texts" => {
+                let texts: u64 = words.next()?.parse().ok()?;
+                arguments.texts = true;
+                arguments.plan.rounds = texts.div_ceil(TEXTS);
+            }
             "--seconds" => {
                 let seconds = words.next()?.parse().ok()?;
                 arguments.plan.limit = Some(Duration::from_secs(seconds));
@@ -113,24 +133,46 @@ fn main() -> ExitCode {
         return replay(other.as_ref());
     }
     let plan = arguments.plan;
-    println!("compare: seed {:x}, {} rounds", plan.seed, plan.rounds);
+    let of_texts = if arguments.texts { format!(" of {TEXTS} texts") } else { String::new() };
+    println!("compare: seed {:x}, {} rounds{of_texts}", plan.seed, plan.rounds);
     let mut bench = Bench::new(&Second, other.as_ref());
     if let Some(path) = &arguments.trace {
         bench.trace = File::create(path).ok();
     }
-    match cases::run(&mut bench, &plan) {
-        Ok(_) if bench.counts.calls() < arguments.least => {
-            println!("compare: fewer than {} calls: {}", arguments.least, bench.counts);
-            ExitCode::FAILURE
-        }
+    let run = if arguments.texts { cases::run_texts } else { cases::run };
+    let outcome = run(&mut bench, &plan);
+    report(outcome, &bench.counts, &arguments)
+}
+
+fn report(outcome: Step<u64>, counts: &Counts, arguments: &Arguments) -> ExitCode {
+    let texts = counts.texts();
+    match outcome {
         Ok(done) => {
-            println!("compare: {done} cases, {}, no difference", bench.counts);
-            ExitCode::SUCCESS
+            println!("compare: {texts}");
+            println!("compare: {done} cases, {counts}, no difference");
+            ExitCode::from(u8::from(!is_enough(counts, arguments)))
         }
         Err(difference) => {
             print!("{}", difference.0);
-            println!("# compare: a difference after {}", bench.counts);
+            println!("# compare: {texts}");
+            println!("# compare: a difference after {counts}");
             ExitCode::FAILURE
         }
     }
+}
+
+/// Whether as much was compared as must be; false after a message.
+fn is_enough(counts: &Counts, arguments: &Arguments) -> bool {
+    let limits = [
+        ("calls on devices", counts.calls(), arguments.least),
+        ("random texts", counts.random_texts, arguments.least_texts),
+    ];
+    let mut enough = true;
+    for (what, count, least) in limits {
+        if count < least {
+            println!("compare: fewer than {least} {what}");
+            enough = false;
+        }
+    }
+    enough
 }

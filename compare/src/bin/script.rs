@@ -1,17 +1,64 @@
-//! Reads commands from standard input and prints an answer line for each.
+//! Reads commands from standard input and prints an answer line for each. With --text the
+//! master's cycles are written to a file, a frame a line.
 
+use compare::command::Command;
+use compare::frames::Frames;
 use compare::model::Second;
 use compare::script::answer_line;
 use compare::session::Session;
+use std::fs;
 use std::io::{self, BufRead, BufWriter, Write};
+use std::process::ExitCode;
 
-fn main() -> io::Result<()> {
+const USAGE: &str = "usage: script [--text FILE] < commands";
+
+/// Answers every line, and records the cycles of each command if frames are given.
+fn answer_all(mut frames: Option<&mut Frames>) -> io::Result<()> {
     let mut session = Session::new(&Second);
     let mut out = BufWriter::new(io::stdout().lock());
     for line in io::stdin().lock().lines() {
-        if let Some(answer) = answer_line(&mut session, &line?) {
+        let line = line?;
+        if let (Some(frames), Some(command)) = (&mut frames, Command::parse(&line)) {
+            frames.follow(&session.records, &command);
+        }
+        if let Some(answer) = answer_line(&mut session, &line) {
             writeln!(out, "{answer}")?;
         }
     }
     out.flush()
+}
+
+/// A text that is refused leaves the file as it is.
+fn write_frames(frames: &Frames, path: &str) -> Result<(), String> {
+    let text = frames.text().map_err(|number| format!("the text is refused with {number}"))?;
+    fs::write(path, text).map_err(|error| format!("{path}: {error}"))
+}
+
+fn run(path: Option<&str>) -> Result<(), String> {
+    let mut frames = path.map(|_| Frames::default());
+    answer_all(frames.as_mut()).map_err(|error| error.to_string())?;
+    match (frames, path) {
+        (Some(frames), Some(path)) => write_frames(&frames, path),
+        _ => Ok(()),
+    }
+}
+
+fn main() -> ExitCode {
+    let words: Vec<String> = std::env::args().skip(1).collect();
+    let words: Vec<&str> = words.iter().map(String::as_str).collect();
+    let path = match words[..] {
+        [] => None,
+        ["--text", path] => Some(path),
+        _ => {
+            eprintln!("{USAGE}");
+            return ExitCode::from(2);
+        }
+    };
+    match run(path) {
+        Ok(()) => ExitCode::SUCCESS,
+        Err(message) => {
+            eprintln!("script: {message}");
+            ExitCode::FAILURE
+        }
+    }
 }

@@ -7,8 +7,10 @@ mod damage;
 mod engine;
 mod forged;
 mod pairs;
+pub mod random_text;
 mod settings;
 mod slow;
+pub mod text;
 mod timeout;
 mod waves;
 
@@ -26,11 +28,13 @@ pub struct Plan {
 
 type Case = fn(&mut Bench, &mut Random) -> Step<()>;
 
+/// Name, the case, and in which rounds it runs: each n-th.
+type Entry = (&'static str, Case, u64);
+
 /// In the first round only, for a case that draws nothing.
 const ONCE: u64 = u64::MAX;
 
-/// Name, the case, and in which rounds it runs: each n-th.
-const CASES: [(&str, Case, u64); 22] = [
+const CASES: [Entry; 22] = [
     ("accesses", accesses::sequence, 1),
     ("offsets", accesses::every_offset, 16),
     ("master", engine::master, 1),
@@ -55,12 +59,25 @@ const CASES: [(&str, Case, u64); 22] = [
     ("single bits", bits::one_by_one, ONCE),
 ];
 
+/// They need no device.
+const TEXT_CASES: [Entry; 2] =
+    [("fixed texts", text::fixed, ONCE), ("random texts", random_text::texts, 1)];
+
 pub fn run(bench: &mut Bench, plan: &Plan) -> Step<u64> {
+    run_cases(bench, plan, &[&CASES[..], &TEXT_CASES].concat())
+}
+
+/// The cases of texts alone.
+pub fn run_texts(bench: &mut Bench, plan: &Plan) -> Step<u64> {
+    run_cases(bench, plan, &TEXT_CASES)
+}
+
+fn run_cases(bench: &mut Bench, plan: &Plan, cases: &[Entry]) -> Step<u64> {
     let start = Instant::now();
     let in_time = || plan.limit.is_none_or(|limit| start.elapsed() < limit);
     let mut done = 0;
     for round in 0..plan.rounds {
-        for (i, (name, case, every)) in CASES.iter().enumerate() {
+        for (i, (name, case, every)) in cases.iter().enumerate() {
             if round % every != 0 {
                 continue;
             }

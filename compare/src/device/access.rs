@@ -16,6 +16,13 @@ pub mod refusal {
     pub const RECORD_LENGTH: u32 = 10;
     pub const BUFFER_LENGTH: u32 = 11;
     pub const INPUT_BYTE: u32 = 12;
+    pub const TOO_MANY_CYCLES: u32 = 13;
+    pub const BAD_CYCLE: u32 = 14;
+    pub const BAD_PLACES: u32 = 15;
+    pub const TOO_SHORT: u32 = 16;
+    pub const BAD_CHARACTER: u32 = 17;
+    pub const EMPTY_LINE: u32 = 18;
+    pub const NO_LINE_FEED: u32 = 19;
 }
 
 pub mod offset {

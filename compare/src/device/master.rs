@@ -13,6 +13,19 @@ impl Device {
         !self.frame && self.slot == 0 && self.gone == 0
     }
 
+    /// The next cycle takes a word to send out of the queue.
+    pub fn master_takes_word(&self) -> bool {
+        let b = self.bits();
+        let joins = match self.format() {
+            Format::Motorola => self.sph() && self.slot == 2 * b + 1,
+            Format::Ti => self.slot == 2 * b,
+            Format::Microwire => self.slot == 18 + 2 * b,
+        };
+        let in_frame = self.frame && self.gone == 0 && (self.slot == 0 || joins);
+        let waits = self.enabled() && !self.slave() && !self.tx.is_empty();
+        waits && (self.at_rest() || in_frame)
+    }
+
     pub(super) fn master_cycle(&mut self, pins: u8) -> u8 {
         let rest = self.at_rest();
         if rest && self.tx.is_empty() {

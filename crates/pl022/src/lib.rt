@@ -1,9 +1,11 @@
-// The calls for C: numbers, the 128 bytes of a record and line bytes. include/pl022.h describes them for a C programmer.
-// Each hands its arguments to the crate below and its answer back; no rule of the device stands here.
+// The calls for C: numbers, the 128 bytes of a record, line bytes and texts. include/pl022.h describes them for a C programmer.
+// Each hands its arguments to a crate below and its answer back; no rule of the device or of a text stands here.
 ghost use Rattle.device_record.specs.Calls.{ResetCall, WriteCall, PairCall};
-ghost use Rattle.pl022.specs.Results.{ReadResult, RunResult, IdleResult};
+ghost use Rattle.pl022.specs.Results.{ReadResult, RunResult, IdleResult, WriteTextResult, ReadTextResult};
 use device_record::run::Stop;
 use registers::access::Answer;
+use text::read::Reading;
+use text::write::Written;
 
 // What a read answers.
 #[repr(C)]
@@ -13,12 +15,21 @@ pub struct WordResult {
     pub word: u32,
 }
 
-// What a run to idle answers.
+// What a run to idle and the writing of a text answer.
 #[repr(C)]
 pub struct CountResult {
     pub refusal: u64,
-    // cycles run, 0 where it is refused
+    // cycles run or bytes written, 0 where it is refused
     pub count: u64,
+}
+
+// What the reading of a text answers.
+#[repr(C)]
+pub struct TextResult {
+    pub refusal: u64,
+    // cycles and line starts written, 0 where it is refused
+    pub cycles: u64,
+    pub starts: u64,
 }
 
 // Makes the record that of a device as after reset, whatever it held.
@@ -87,4 +98,42 @@ pub extern "C" fn pl022_pair_run(first: &mut [u8], second: &mut [u8], cycles: u6
     ensures { λ r. ⌜ PairCall (now (first .entry)) (now (second .entry)) cycles r (now (first .exit)) (now (second .exit)) ⌝ }
 {
     device_record::calls::pair_call(first, second, cycles) as u32
+}
+
+// Writes a recording as text, a line from each place on.
+#[no_mangle]
+pub extern "C" fn pl022_write_text(lines: &[u8], places: &[u32], text: &mut [u8]) -> CountResult
+    ensures { λ r. ⌜ WriteTextResult (now (lines .entry)) (now (places .entry)) (now (text .entry)) r (now (text .exit)) ⌝ }
+{
+    let answer = text::write::write_text(lines, places, text);
+    match answer {
+        Written::Bytes(count) => CountResult {
+            refusal: 0,
+            count: count as u64,
+        },
+        Written::Refused(refusal) => CountResult {
+            refusal: refusal as u64,
+            count: 0,
+        },
+    }
+}
+
+// Reads a text as cycles and line starts.
+#[no_mangle]
+pub extern "C" fn pl022_read_text(text: &[u8], lines: &mut [u8], starts: &mut [u32]) -> TextResult
+    ensures { λ r. ⌜ ReadTextResult (now (text .entry)) (now (lines .entry)) (now (starts .entry)) r (now (lines .exit)) (now (starts .exit)) ⌝ }
+{
+    let answer = text::read::read_text(text, lines, starts);
+    match answer {
+        Reading::Recording(count, begun) => TextResult {
+            refusal: 0,
+            cycles: count as u64,
+            starts: begun as u64,
+        },
+        Reading::Refused(refusal) => TextResult {
+            refusal: refusal as u64,
+            cycles: 0,
+            starts: 0,
+        },
+    }
 }

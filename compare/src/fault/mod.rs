@@ -1,12 +1,14 @@
 //! The second program with one fault, to see that the harness finds it.
 
+mod text;
+
 use crate::device::offset::{CR1, ICR, MIS, SR};
 use crate::device::{Device, Format, Queue, DATA, FSS};
 use crate::model::{Model, Second};
 use crate::record::{at, decode, encode, LENGTH};
 use std::ops::RangeInclusive;
 
-pub const FAULTS: u32 = 33;
+pub const FAULTS: u32 = 62;
 
 /// Those of a Microwire slave.
 pub const MICROWIRE_FAULTS: RangeInclusive<u32> = 15..=18;
@@ -16,6 +18,9 @@ pub const TIMEOUT_FAULTS: RangeInclusive<u32> = 19..=25;
 
 /// Those of a bit that is picked one place off.
 pub const BIT_FAULTS: RangeInclusive<u32> = 26..=32;
+
+/// Those of texts: up to 45 in writing, then in reading.
+pub const TEXT_FAULTS: RangeInclusive<u32> = 33..=61;
 
 /// Those that spoil single cycles of a run.
 fn spoils_cycles(number: u32) -> bool {
@@ -288,5 +293,13 @@ impl Model for Faulty {
             keep_timeout(&start[1], second);
         }
         refusal
+    }
+
+    fn write_text(&self, cycles: &[u8], places: &[u32], text: &mut [u8]) -> (u64, u64) {
+        text::write_text(self.0, cycles, places, text)
+    }
+
+    fn read_text(&self, text: &[u8], cycles: &mut [u8], starts: &mut [u32]) -> (u64, u64, u64) {
+        text::read_text(self.0, text, cycles, starts)
     }
 }

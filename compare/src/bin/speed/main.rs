@@ -1,5 +1,8 @@
-//! Cycles and register accesses a second: the library and the second program at
-//! the same work in turn, and a plain fill of the same output bytes beside them.
+//! Cycles, register accesses and bytes of text a second: the library and the second
+//! program at the same work in turn, and a plain fill or copy of the same bytes beside them.
+
+mod table;
+mod texts;
 
 use compare::device::offset::{CPSR, CR0, CR1, DR, IMSC, SR};
 use compare::device::{refusal, Device};
@@ -10,6 +13,7 @@ use compare::record::{encode, LENGTH};
 use std::hint::black_box;
 use std::process::ExitCode;
 use std::time::{Duration, Instant};
+use table::Row;
 
 const USAGE: &str = "usage: speed [CYCLES]";
 
@@ -228,42 +232,11 @@ fn fill_lap(output: &mut [u8], rounds: u64) -> Duration {
     start.elapsed()
 }
 
-/// Millions a second in all laps, in the slowest and in the fastest.
-fn speeds(laps: &[Duration], things_a_lap: u64) -> [f64; 3] {
-    let millions = things_a_lap as f64 / 1e6;
-    let rate = |lap: &Duration| millions / lap.as_secs_f64().max(1e-9);
-    let total: Duration = laps.iter().sum();
-    let slowest = laps.iter().map(rate).fold(f64::INFINITY, f64::min);
-    let fastest = laps.iter().map(rate).fold(0.0, f64::max);
-    [rate(&total) * laps.len() as f64, slowest, fastest]
-}
-
-fn print_speeds(name: &str, speeds: [f64; 3]) {
-    println!("  {name:<42}{:>10.2}{:>10.2}{:>10.2}", speeds[0], speeds[1], speeds[2]);
-}
-
-/// Of the means, and of the fastest laps, which noise disturbs least.
-fn print_ratio(name: &str, library: [f64; 3], other: [f64; 3]) {
-    let [mean, _, fastest] = [0, 1, 2].map(|i| library[i] / other[i]);
-    println!("  {:<42}{mean:>10.6}{:>10}{fastest:>10.6}", format!("library : {name}"), "");
-}
-
 /// Prints the table of one piece of work; false if the programs disagree.
-fn report(what: &str, runners: &[Runner], things: u64, fill: Option<[f64; 3]>) -> bool {
-    let all: Vec<_> = runners.iter().map(|runner| speeds(&runner.laps, things)).collect();
-    println!("  {what:<42}{:>10}{:>10}{:>10}", "mean", "slowest", "fastest");
-    for (runner, speeds) in runners.iter().zip(&all) {
-        print_speeds(runner.name, *speeds);
-    }
-    if let Some(fill) = fill {
-        print_speeds("memset of the output", fill);
-    }
-    for (runner, speeds) in runners.iter().zip(&all).skip(1) {
-        print_ratio(runner.name, all[0], *speeds);
-    }
-    if let Some(fill) = fill {
-        print_ratio("memset of the output", all[0], fill);
-    }
+fn report(what: &str, runners: &[Runner], things: u64, fill: Option<Row>) -> bool {
+    let row = |runner: &Runner| Row::new(runner.name, &runner.laps, things);
+    let rows: Vec<Row> = runners.iter().map(row).chain(fill).collect();
+    table::print(what, &rows);
     agree(runners)
 }
 
@@ -302,7 +275,7 @@ fn measure_runs(work: &Work, cycles: u64) -> bool {
         fills.push(fill_lap(&mut filled, rounds));
     }
     println!("\n{}: {} cycles each", work.title, cycles_a_lap * laps);
-    let fill = speeds(&fills, cycles_a_lap * FILLS);
+    let fill = Row::new("memset of the output", &fills, cycles_a_lap * FILLS);
     report("million cycles a second", &runners, cycles_a_lap, Some(fill))
 }
 
@@ -333,7 +306,10 @@ fn main() -> ExitCode {
         return ExitCode::from(2);
     };
     println!("speed: a Motorola master of 16 bits, eight words before each run");
-    println!("outputs cleared once before the clock starts; each run overwrites all of its output");
+    println!(
+        "outputs cleared before the clock starts, those of texts before each lap; \
+         all of each is overwritten"
+    );
     println!("input the same random levels for all");
     println!("clock stopped while outputs are summed up, not while answers are");
     println!("up to {LAPS} laps, the programs in turn: mean of all, slowest and fastest lap");
@@ -342,5 +318,6 @@ fn main() -> ExitCode {
         good &= measure_runs(work, cycles);
     }
     good &= measure_accesses(cycles);
+    good &= texts::measure(cycles);
     ExitCode::from(u8::from(!good))
 }

@@ -1,0 +1,5 @@
+mod Digits
+mod Buffers
+mod Writing
+mod Reading
+mod RoundTrip

@@ -1,0 +1,107 @@
+#include "text.h"
+
+#include <errno.h>
+#include <inttypes.h>
+
+/* A longer text is refused within this many bytes, so that no more need be read. */
+enum { MOST_BYTES = PL022_TEXT_LENGTH + 1 };
+
+struct text {
+    uint8_t bytes[MOST_BYTES];
+    size_t length;
+    uint8_t lines[PL022_TEXT_CYCLES];
+    uint32_t starts[PL022_TEXT_CYCLES];
+};
+
+const char *text_refusal(uint64_t refusal)
+{
+    switch (refusal) {
+    case PL022_TOO_MANY_CYCLES:
+        return "more than 4096 cycles";
+    case PL022_BAD_CHARACTER:
+        return "a character other than 0 to 9, A to F and the line feed";
+    case PL022_EMPTY_LINE:
+        return "a line without a cycle";
+    case PL022_NO_LINE_FEED:
+        return "the text does not end with a line feed";
+    default:
+        return "a number that was not expected";
+    }
+}
+
+/* Reads the text as if it ended after so many bytes. The buffers are always long enough. */
+static struct pl022_text read_beginning(struct text *text, size_t length)
+{
+    return pl022_read_text(text->bytes, length, text->lines, PL022_TEXT_CYCLES, text->starts,
+                           PL022_TEXT_CYCLES);
+}
+
+/*
+ * The place that decided, from 0. A beginning without it is done, or its last line feed is
+ * missing; one with it is refused as the whole is, whatever follows. Hence the search by
+ * halves, with no rule of a text in it.
+ */
+static size_t deciding_place(struct text *text, uint64_t refusal)
+{
+    if (refusal == PL022_NO_LINE_FEED) {
+        return text->length;
+    }
+    size_t without = 0;
+    size_t with = text->length;
+    while (with - without > 1) {
+        size_t middle = without + (with - without) / 2;
+        if (read_beginning(text, middle).refusal == refusal) {
+            with = middle;
+        } else {
+            without = middle;
+        }
+    }
+    return without;
+}
+
+static void complain(struct text *text, const char *name, uint64_t refusal)
+{
+    size_t place = deciding_place(text, refusal);
+    size_t line = 1;
+    size_t column = 1;
+    for (size_t n = 0; n < place; n++) {
+        line += text->bytes[n] == '\n';
+        column = text->bytes[n] == '\n' ? 1 : column + 1;
+    }
+    fprintf(stderr, "pl022: %s:%zu:%zu: refused with %" PRIu64 ": %s\n", name, line, column,
+            refusal, text_refusal(refusal));
+}
+
+/* The first edge of a line is drawn against the line before; the first of all has none. */
+static void draw_lines(struct text *text, const struct pl022_text *read,
+                       const struct diagram *diagram, FILE *out)
+{
+    for (size_t n = 0; n < read->starts; n++) {
+        size_t start = text->starts[n];
+        size_t end = n + 1 < read->starts ? text->starts[n + 1] : (size_t)read->cycles;
+        const struct recording recording = {
+            .levels = text->lines + start,
+            .cycles = end - start,
+            .before = text->lines[start == 0 ? 0 : start - 1],
+        };
+        diagram_draw_recording(diagram, &recording, start, out);
+    }
+}
+
+enum status text_draw(FILE *file, const char *name, const struct diagram *diagram, FILE *out)
+{
+    struct text text;
+    text.length = fread(text.bytes, 1, sizeof text.bytes, file);
+    if (ferror(file)) {
+        options_file_message(name, errno);
+        return STATUS_FILES;
+    }
+    struct pl022_text read = read_beginning(&text, text.length);
+    if (read.refusal != PL022_DONE) {
+        complain(&text, name, read.refusal);
+        return STATUS_WRONG;
+    }
+    errno = 0;
+    draw_lines(&text, &read, diagram, out);
+    return STATUS_DONE;
+}
