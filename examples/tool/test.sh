@@ -1043,43 +1043,32 @@ run ""
 fails "script without a name"
 run "$dir"
 fails "folder as the script"
-run --vcd "$dir/none/vcd" "$scripts/p1.txt"
-fails "dump in a missing folder"
-check "dump in a missing folder: no answer" equal "$(cat "$dir/out")" ""
-run --vcd "$dir" "$scripts/p1.txt"
-fails "folder as the dump"
-run --vcd "" "$scripts/p1.txt"
-fails "dump without a name"
-run --vcd "$dir/untouched" "$dir/missing"
-fails "dump of a missing script"
-check "dump of a missing script is not made" [ ! -e "$dir/untouched" ]
+# no_output SWITCH NAME: names of a file that cannot be written, or may not be.
+no_output() {
+    run "$1" "$dir/none/file" "$scripts/p1.txt"
+    fails "$2 in a missing folder"
+    check "$2 in a missing folder: no answer" equal "$(cat "$dir/out")" ""
+    run "$1" "$dir" "$scripts/p1.txt"
+    fails "folder as the $2"
+    run "$1" "" "$scripts/p1.txt"
+    fails "$2 without a name"
+    run "$1" "$dir/untouched" "$dir/missing"
+    fails "$2 of a missing script"
+    check "$2 of a missing script is not made" [ ! -e "$dir/untouched" ]
+    run "$1" "$dir/script" "$dir/script"
+    fails "$2 into the script"
+    check "$2 into the script: the script stays" same "$scripts/p1.txt" "$dir/script"
+    status=0
+    "$tool" "$1" "$dir/both" "$scripts/p1.txt" >"$dir/both" 2>"$dir/err" || status=$?
+    fails "$2 into the answers"
+    status=0
+    "$tool" "$1" "$dir/script" <"$dir/script" >"$dir/out" 2>"$dir/err" || status=$?
+    fails "$2 into the script on standard input"
+    check "$2 into the script on standard input: the script stays" same "$scripts/p1.txt" "$dir/script"
+}
 cp "$scripts/p1.txt" "$dir/script"
-run --vcd "$dir/script" "$dir/script"
-fails "dump into the script"
-check "dump into the script: the script stays" same "$scripts/p1.txt" "$dir/script"
-status=0
-"$tool" --vcd "$dir/both" "$scripts/p1.txt" >"$dir/both" 2>"$dir/err" || status=$?
-fails "dump into the answers"
-run --text "$dir/none/text" "$scripts/p1.txt"
-fails "text in a missing folder"
-check "text in a missing folder: no answer" equal "$(cat "$dir/out")" ""
-run --text "$dir" "$scripts/p1.txt"
-fails "folder as the text"
-run --text "" "$scripts/p1.txt"
-fails "text without a name"
-run --text "$dir/untouched" "$dir/missing"
-fails "text of a missing script"
-check "text of a missing script is not made" [ ! -e "$dir/untouched" ]
-run --text "$dir/script" "$dir/script"
-fails "text into the script"
-check "text into the script: the script stays" same "$scripts/p1.txt" "$dir/script"
-status=0
-"$tool" --text "$dir/both" "$scripts/p1.txt" >"$dir/both" 2>"$dir/err" || status=$?
-fails "text into the answers"
-status=0
-"$tool" --text "$dir/script" <"$dir/script" >"$dir/out" 2>"$dir/err" || status=$?
-fails "text into the script on standard input"
-check "text into the script on standard input: the script stays" same "$scripts/p1.txt" "$dir/script"
+no_output --vcd dump
+no_output --text text
 echo kept >"$dir/kept"
 ln "$dir/kept" "$dir/kept.too"
 run --vcd "$dir/kept" --text "$dir/kept.too" "$scripts/p1.txt"

@@ -125,10 +125,10 @@ pub extern "C" fn pl022_read_text(text: &[u8], lines: &mut [u8], starts: &mut [u
 {
     let answer = text::read::read_text(text, lines, starts);
     match answer {
-        Reading::Recording(count, begun) => TextResult {
+        Reading::Recording(cycles, line_starts) => TextResult {
             refusal: 0,
-            cycles: count as u64,
-            starts: begun as u64,
+            cycles: cycles as u64,
+            starts: line_starts as u64,
         },
         Reading::Refused(refusal) => TextResult {
             refusal: refusal as u64,

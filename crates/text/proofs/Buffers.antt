@@ -4,7 +4,7 @@ use mathlib.Core.Path.{_≡_, refl, sym, ap, _∙_}
 use mathlib.Core.List.{List, [], _∷_, _++_, map, append-assoc, append-nil}
 use native.Mathlib.Omega.{arith}
 use native.Mathlib.Numerals.{add-one}
-use lib.ListN.{length, getD, take, drop, set, length-set, length-append, take-append-drop}
+use lib.ListN.{length, getD, take, drop, set, length-set, length-append, length-map, take-append-drop}
 use lib.Seq.{paste, paste-zero, paste-suc, length-paste, take-paste, drop-paste, take-length, length-take-le, drop-drop, set-split, append-snoc}
 use Rattle.text.specs.Text.{over, Put}
 
@@ -103,7 +103,26 @@ module _ (before : List ℕ) (at : ℕ) (part now : List ℕ) (i : ℕ) (l : Put
       let e : i ≡ length part = omega arith in
       record { next = rw e; put = l .front ∙ ap (paste before at part) e }
 
-pub getD-map : (f : ℕ → ℕ) (l : List ℕ) (i : ℕ) → i < length l → getD (map f l) i 0 ≡ f (getD l i 0)
-getD-map f [] i h = absurd (omega arith)
-getD-map f (x ∷ xs) zero h = refl
-getD-map f (x ∷ xs) (suc i) h = getD-map f xs i (omega arith)
+getD-map : (f : ℕ → ℕ) (l rest : List ℕ) (i : ℕ) → i < length l → getD (map f l ++ rest) i 0 ≡ f (getD l i 0)
+getD-map f [] rest i h = absurd (omega arith)
+getD-map f (x ∷ xs) rest zero h = refl
+getD-map f (x ∷ xs) rest (suc i) h = getD-map f xs rest i (omega arith)
+
+pub length-mapped : (f : ℕ → ℕ) (l rest : List ℕ) → length (map f l ++ rest) ≡ length l + length rest
+length-mapped f l rest = length-append (map f l) rest ∙ ap (λ (n : ℕ). n + length rest) (length-map l f)
+
+-- The first i elements of a list are written by f, from `at` on; `rest` is to follow the last.
+pub record Mapping (f : ℕ → ℕ) (rest before : List ℕ) (at : ℕ) (list now : List ℕ) (i : ℕ) : Type 0 where
+  pub within : i ≤ length list
+  pub room : at + (length list + length rest) ≤ length before
+  pub same : length now ≡ length before
+  pub part : Putting before at (map f list ++ rest) now i
+
+pub mapping-begin : (f : ℕ → ℕ) (rest before : List ℕ) (at : ℕ) (list : List ℕ) → at + (length list + length rest) ≤ length before → Mapping f rest before at list before 0
+mapping-begin f rest before at list h = record { within = omega arith; room = h; same = refl; part = putting-begin before at (map f list ++ rest) (rw (length-mapped f list rest) h) }
+
+pub mapping-turn : (f : ℕ → ℕ) (rest before : List ℕ) (at : ℕ) (list now : List ℕ) (i : ℕ) → Mapping f rest before at list now i → (x : ℕ) → i < length list → x ≡ f (getD list i 0) → Mapping f rest before at list (set now (at + i) x) (i + 1)
+mapping-turn f rest before at list now i m x h e =
+    let l = length-mapped f list rest in
+    let p = putting-turn before at (map f list ++ rest) now i (m .part) x (omega arith) (e ∙ sym (getD-map f list rest i h)) in
+    record { within = omega arith; room = m .room; same = p .same; part = p }

@@ -2,7 +2,7 @@
 use Prim.Native.Nat.{ℕ, zero, suc, _+_, _-_, _≤_, _<_}
 use mathlib.Core.Path.{_≡_, refl, sym, ap, _∙_}
 use mathlib.Core.Bool.{Bool, true, false, true≢false, not, _||_}
-use mathlib.Core.List.{List, [], _∷_, _++_, map}
+use mathlib.Core.List.{List, [], _∷_, _++_, map, append-nil}
 use native.Mathlib.Omega.{arith}
 use native.Mathlib.Decide.{decLt}
 use native.Mathlib.Nat.{add-zero}
@@ -21,7 +21,7 @@ use Rattle.text.specs.declared.characters.Character.the-variants.{Digit,
 use Rattle.text.specs.declared.read.Checked.{Checked}
 use Rattle.text.specs.declared.read.Reading.the-variants.{Recording, Refused}
 use Rattle.text.proofs.Digits.{first-done, digit-value, no-feed, feed-written}
-use Rattle.text.proofs.Buffers.{Putting, putting-begin, putting-turn, putting-end, getD-map, Filled, put-one, fill-begin, fill-more, fill-end}
+use Rattle.text.proofs.Buffers.{putting-end, length-mapped, Mapping, Filled, put-one, fill-begin, fill-more, fill-end}
 
 or-split : (a b : Bool) → (a || b) ≡ false → (a ≡ false) × (b ≡ false)
 or-split true b e = absurd (true≢false e)
@@ -95,7 +95,7 @@ module _ (x : ℕ) (k : Character) (q : characterOf x ≡ k) (xs : List ℕ) whe
   pub accepted-character : (n : ℕ) (begun : Bool) → refusalFrom n begun (x ∷ xs) ≡ done → (refusalAt n begun k ≡ done) × (refusalFrom (n + length (cycleAt k)) (isDigit k) xs ≡ done)
   accepted-character n begun e = rw q at (accepted-next n begun x xs e)
 
--- Checking --------------------------------------------------------------------------------------------------------------
+-- Checking -------------------------------------------------------------------------------------------------------------
 
 pub refusal-feed : (x : ℕ) → characterOf x ≡ LineFeed → (xs : List ℕ) (n : ℕ) → refusalFrom n true (x ∷ xs) ≡ refusalFrom n false xs
 unfolding refusalFrom
@@ -192,7 +192,7 @@ run-read (suc m) n (x ∷ xs) h = go (isDigit (characterOf x)) refl (passed-run 
         }
     go false e p = run-none n (x ∷ xs)
 
--- Before place `at`, where a line is to start: n cycles and m line starts.
+-- Before byte `at`, where a line is to start: n cycles and m line starts.
 pub record Checking (text : List ℕ) (n m at : ℕ) : Type 0 where
   pub within : at ≤ length text
   pub most : n ≤ mostCycles
@@ -258,7 +258,7 @@ module _ (text : List ℕ) (n m at : ℕ) (j : Checking text n m at) where
       here : drop (at + c) text ≡ getD text (at + c) 0 ∷ drop (at + c + 1) text
       here = drop-cons text (at + c) 0 u ∙ rw (add-one (at + c))
 
-      -- the place behind the run decides
+      -- the character behind the run decides
       pub check-refused : (f : ℕ) → f ≡ refusalAt (n + c) (ltb 0 c) k → (f ≡ done → ⊥) → Check text (checkedRefused f)
       unfolding refusalFrom
       check-refused f v z = refused text f (run-refusal ∙ rw (here, ← q, ← v, ne-eqb f done z)) z
@@ -354,26 +354,11 @@ line-digit n x xs e = go (characterOf x) refl
     go LineFeed q = absurd (let l : _≡_ {A = ℕ} 18 0 = accepted-character x LineFeed q xs n false e .0 in omega arith)
     go Other q = absurd (let l : _≡_ {A = ℕ} 17 0 = accepted-character x Other q xs n false e .0 in omega arith)
 
--- The cycles of the first i digits are written, from n on.
-pub record Valued (before : List ℕ) (n : ℕ) (digits now : List ℕ) (i : ℕ) : Type 0 where
-  pub within : i ≤ length digits
-  pub room : n + length digits ≤ length before
-  pub same : length now ≡ length before
-  pub cycles : Putting before n (map valueOf digits) now i
+-- The cycles of all digits are written.
+pub cycles-done : (before : List ℕ) (n : ℕ) (digits now : List ℕ) (i : ℕ) → Mapping valueOf [] before n digits now i → length digits ≤ i → Put before n (map valueOf digits) (n + i) now
+cycles-done before n digits now i m h = rw append-nil at (putting-end before n (map valueOf digits ++ []) now i (m .part) (rw (length-mapped valueOf digits []) (omega arith)))
 
-pub values-begin : (before : List ℕ) (n : ℕ) (digits : List ℕ) → n + length digits ≤ length before → Valued before n digits before 0
-values-begin before n digits h = record { within = omega arith; room = h; same = refl; cycles = putting-begin before n (map valueOf digits) (rw (length-map digits valueOf) h) }
-
-module _ (before : List ℕ) (n : ℕ) (digits now : List ℕ) (i : ℕ) (v : Valued before n digits now i) where
-  pub values-turn : (x : ℕ) → i < length digits → x ≡ valueOf (getD digits i 0) → Valued before n digits (set now (n + i) x) (i + 1)
-  values-turn x h e =
-      let p = putting-turn before n (map valueOf digits) now i (v .cycles) x (rw (length-map digits valueOf) h) (e ∙ sym (getD-map valueOf digits i h)) in
-      record { within = omega arith; room = v .room; same = p .same; cycles = p }
-
-  pub values-end : length digits ≤ i → Put before n (map valueOf digits) (n + i) now
-  values-end h = putting-end before n (map valueOf digits) now i (v .cycles) (rw (length-map digits valueOf) h)
-
--- Before place `at`, where a line is to start: n cycles and m line starts are written.
+-- Before byte `at`, where a line is to start: n cycles and m line starts are written.
 pub record Filling (text cb sb cb₁ sb₁ : List ℕ) (n m at : ℕ) : Type 0 where
   pub within : at ≤ length text
   pub most : n ≤ mostCycles

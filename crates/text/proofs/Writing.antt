@@ -6,7 +6,7 @@ use mathlib.Core.List.{List, [], _∷_, _++_, map}
 use native.Mathlib.Omega.{arith}
 use native.Mathlib.Numerals.{add-one}
 use lib.Dec.{ltb, leb}
-use lib.ListN.{length, getD, take, drop, set, length-drop, length-append, length-map, drop-of-length-le, List·getD-append}
+use lib.ListN.{length, getD, take, drop, set, length-drop, length-append, length-map, drop-of-length-le}
 use lib.Seq.{drop-cons, length-take-le, length-paste, getD-at}
 use mir.Val.{boolByte}
 use borrow.Author.Tests.{ltb-true, ltb-false, leb-true, le-leb, lt-ltb, le-ltb, ne-eqb}
@@ -16,7 +16,7 @@ use Rattle.text.specs.Text.{lineFeed, digitOf, mostCycles, cyclesFit, pl
 use Rattle.text.specs.Write.{recordingRefusal, writeRefusal, writeAnswer, writeLeft, leadOf, Lead, Lines, WriteText}
 use Rattle.text.specs.declared.write.Written.the-variants.{Bytes, Refused}
 use Rattle.text.proofs.Digits.{first-done, and-split, one-at-most}
-use Rattle.text.proofs.Buffers.{Putting, putting-begin, putting-turn, putting-end, Filled, put-none, fill-begin, fill-more, fill-put, put-put, put-over, getD-map}
+use Rattle.text.proofs.Buffers.{putting-turn, putting-end, length-mapped, Mapping, Filled, put-none, fill-begin, fill-more, fill-put, put-put, put-over}
 
 -- Cycles ---------------------------------------------------------------------------------------------------------------
 
@@ -92,7 +92,7 @@ line-at low n (p ∷ ps) (suc k) e h = line-at (p + 1) n ps k (places-split low 
 
 length-line : (cs : List ℕ) → length (lineOf cs) ≡ length cs + 1
 unfolding lineOf
-length-line cs = length-append (map digitOf cs) (lineFeed ∷ []) ∙ ap (λ (n : ℕ). n + 1) (length-map cs digitOf)
+length-line cs = length-mapped digitOf cs (lineFeed ∷ [])
 
 pub length-between : (s t : ℕ) (cs : List ℕ) → t ≤ length cs → length (between s t cs) ≡ t - s
 length-between s t cs h = length-take-le (t - s) (drop s cs) (rw (length-drop s cs) (omega arith))
@@ -151,35 +151,16 @@ length-text cs ps e = go (lineStarts cs ps) (starts-fit cs ps e) (first-zero cs 
     go [] f z = omega arith
     go (s ∷ ss) f z = let l = length-lines cs 0 s ss f in omega arith
 
-digit-at : (line : List ℕ) (i : ℕ) → i < length line → getD (lineOf line) i 0 ≡ digitOf (getD line i 0)
-unfolding lineOf
-digit-at line i h = List·getD-append (map digitOf line) (lineFeed ∷ []) 0 i (rw (length-map line digitOf) h) ∙ getD-map digitOf line i h
-
 -- A line is written digit by digit, then its line feed.
-pub record Lining (before : List ℕ) (at : ℕ) (line now : List ℕ) (i : ℕ) : Type 0 where
-  pub within : i ≤ length line
-  pub room : at + length line < length before
-  pub same : length now ≡ length before
-  pub digits : Putting before at (lineOf line) now i
-
-pub line-begin : (before : List ℕ) (at : ℕ) (line : List ℕ) → at + length line < length before → Lining before at line before 0
-line-begin before at line h = record { within = omega arith; room = h; same = refl; digits = putting-begin before at (lineOf line) (let k = length-line line in omega arith) }
-
-module _ (before : List ℕ) (at : ℕ) (line now : List ℕ) (i : ℕ) (l : Lining before at line now i) where
-  pub line-turn : (x : ℕ) → i < length line → x ≡ digitOf (getD line i 0) → Lining before at line (set now (at + i) x) (i + 1)
-  line-turn x h e =
-      let p = putting-turn before at (lineOf line) now i (l .digits) x (let k = length-line line in omega arith) (e ∙ sym (digit-at line i h)) in
-      record { within = omega arith; room = l .room; same = p .same; digits = p }
-
-  pub line-done : length line ≤ i → Put before at (lineOf line) (at + i + 1) (set now (at + i) lineFeed)
-  unfolding lineOf
-  line-done h =
-      let k = length-line line in
-      let w = l .within in
-      let f : getD (lineOf line) i 0 ≡ lineFeed = getD-at (map digitOf line) lineFeed [] 0 i (length-map line digitOf ∙ omega arith) in
-      let p = putting-end before at (lineOf line) (set now (at + i) lineFeed) (i + 1) (putting-turn before at (lineOf line) now i (l .digits) lineFeed (omega arith) (sym f)) (omega arith) in
-      let n : at + (i + 1) ≡ at + i + 1 = omega arith in
-      rw n at p
+pub line-done : (before : List ℕ) (at : ℕ) (line now : List ℕ) (i : ℕ) → Mapping digitOf (lineFeed ∷ []) before at line now i → length line ≤ i → Put before at (lineOf line) (at + i + 1) (set now (at + i) lineFeed)
+unfolding lineOf
+line-done before at line now i m h =
+    let k = length-line line in
+    let w = m .within in
+    let f : getD (lineOf line) i 0 ≡ lineFeed = getD-at (map digitOf line) lineFeed [] 0 i (length-map line digitOf ∙ omega arith) in
+    let p = putting-end before at (lineOf line) (set now (at + i) lineFeed) (i + 1) (putting-turn before at (lineOf line) now i (m .part) lineFeed (omega arith) (sym f)) (omega arith) in
+    let n : at + (i + 1) ≡ at + i + 1 = omega arith in
+    rw n at p
 
 -- Refusals -------------------------------------------------------------------------------------------------------------
 

@@ -1,19 +1,22 @@
 use Prim.Native.Nat.{_-_}
 use lib.ListN.{length}
-use Rattle.text.proofs.Reading.{Valued, values-begin, values-turn, values-end}
+use mathlib.Core.List.{[]}
+use Rattle.text.specs.Read.{valueOf}
+use Rattle.text.proofs.Buffers.{Mapping, mapping-begin, mapping-turn}
+use Rattle.text.proofs.Reading.{cycles-done}
 use borrow.Author.Needs.{needs}
 use native.Mathlib.Omega.{arith}
 use Rattle.text.proofs.read.put_cycles.Statement.{statement}
 use Rattle.text.proofs.read.put_cycles.Tie as tie
 
 abbrev Inv-loop : tie.InvT-loop
-Inv-loop digits cycles₀ n i₀ cycles i = Valued cycles₀ n digits cycles i
+Inv-loop digits cycles₀ n i₀ cycles i = Mapping valueOf [] cycles₀ n digits cycles i
 
 abbrev μ-loop : tie.MeasureT-loop
 μ-loop digits cycles₀ n i₀ cycles i = length digits - i
 
 loop-holds : tie.Need-loop-holds Inv-loop μ-loop
-loop-holds c = values-begin _ _ _ (c .before .before .pre)
+loop-holds c = mapping-begin _ _ _ _ _ (let h = c .before .before .pre in omega arith)
 
 shared-slice-read-value-of : tie.Need-shared-slice-read-value-of Inv-loop μ-loop
 shared-slice-read-value-of c = omega arith
@@ -34,7 +37,7 @@ loop-less : tie.Need-loop-less Inv-loop μ-loop
 loop-less c = omega arith
 
 loop-again : tie.Need-loop-again Inv-loop μ-loop
-loop-again c = values-turn _ _ _ _ _ (c .before .before .before .loop .inv) _ (c .before .before .loop-test .taken) (c .value-of .ensures)
+loop-again c = mapping-turn _ _ _ _ _ _ _ (c .before .before .before .loop .inv) _ (c .before .before .loop-test .taken) (c .value-of .ensures)
 
 add-result : tie.Need-add-result Inv-loop μ-loop
 add-result c = omega arith
@@ -43,7 +46,7 @@ same-length : tie.Need-same-length Inv-loop μ-loop
 same-length c = c .before .loop .inv .same
 
 returns : tie.Need-returns Inv-loop μ-loop
-returns c = values-end _ _ _ _ _ (c .before .loop .inv) (c .loop-test .left)
+returns c = cycles-done _ _ _ _ _ (c .before .loop .inv) (c .loop-test .left)
 
 pub put-cycles-spec : {M : Type 1} → statement M
 put-cycles-spec =

@@ -1,20 +1,23 @@
 use Prim.Native.Nat.{ℕ, _-_}
 use mathlib.Core.Path.{_∙_}
 use lib.ListN.{length, length-set}
-use Rattle.text.proofs.Writing.{Lining, line-begin, line-turn, line-done}
+use mathlib.Core.List.{[], _∷_}
+use Rattle.text.specs.Text.{lineFeed, digitOf}
+use Rattle.text.proofs.Buffers.{Mapping, mapping-begin, mapping-turn}
+use Rattle.text.proofs.Writing.{line-done}
 use borrow.Author.Needs.{needs}
 use native.Mathlib.Omega.{arith}
 use Rattle.text.proofs.write.put_line.Statement.{statement}
 use Rattle.text.proofs.write.put_line.Tie as tie
 
 abbrev Inv-loop : tie.InvT-loop
-Inv-loop line text₀ at i₀ text i = Lining text₀ at line text i
+Inv-loop line text₀ at i₀ text i = Mapping digitOf (lineFeed ∷ []) text₀ at line text i
 
 abbrev μ-loop : tie.MeasureT-loop
 μ-loop line text₀ at i₀ text i = length line - i
 
 loop-holds : tie.Need-loop-holds Inv-loop μ-loop
-loop-holds c = line-begin _ _ _ (c .before .before .pre)
+loop-holds c = mapping-begin _ _ _ _ _ (let h = c .before .before .pre in omega arith)
 
 shared-slice-read-digit-of : tie.Need-shared-slice-read-digit-of Inv-loop μ-loop
 shared-slice-read-digit-of c = omega arith
@@ -35,7 +38,7 @@ loop-less : tie.Need-loop-less Inv-loop μ-loop
 loop-less c = omega arith
 
 loop-again : tie.Need-loop-again Inv-loop μ-loop
-loop-again c = line-turn _ _ _ _ _ (c .before .before .before .loop .inv) _ (c .before .before .loop-test .taken) (c .digit-of .ensures)
+loop-again c = mapping-turn _ _ _ _ _ _ _ (c .before .before .before .loop .inv) _ (c .before .before .loop-test .taken) (c .digit-of .ensures)
 
 add-text-2 : tie.Need-add-text-2 Inv-loop μ-loop
 add-text-2 c = omega arith
