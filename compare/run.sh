@@ -17,7 +17,7 @@ SECONDS_AT_MOST=150
 # Far more than the cases make that leave nothing to chance.
 CALLS_AT_LEAST=1000000
 # All that the rounds make, in about a tenth of the time.
-TEXTS_AT_LEAST=500000
+TEXTS_AT_LEAST=1000000
 
 if [ $# -ne 0 ]; then
     echo "usage: run.sh" >&2

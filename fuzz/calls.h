@@ -75,7 +75,7 @@ bool call_fills(enum call call, enum role role);
 /* Whether the header lists this refusal number for the call. */
 bool call_may_answer(enum call call, uint64_t refusal);
 
-/* Whether the call takes line buffers. */
+/* Whether the call runs cycles from an input to an output buffer. */
 bool call_runs_lines(enum call call);
 
 /* Makes the call on buffers placed at random; fails if a byte around them changed. */

@@ -37,7 +37,7 @@ enum {
     TEXT_LOWER_CASE, TEXT_OTHER_LINE, TEXT_LIMIT_LESS, TEXT_LOOKS_BEHIND_PLACES,
     TEXT_SWAPS_14_15, TEXT_SWAPS_15_16, TEXT_TAKES_EQUAL_PLACES, TEXT_CHANGES_ON_REFUSAL,
     LINES_WRITES_PAST_COUNT, LINES_STARTS_WITH_REFUSAL, LINES_STARTS_LESS, LINES_OTHER_START,
-    LINES_TAKES_LOWER_CASE, LINES_TAKES_CR, LINES_TAKES_NO_LINE_FEED, LINES_BUFFERS_FIRST,
+    LINES_TAKES_LOWER_CASE, LINES_TAKES_CR_LF, LINES_TAKES_NO_LINE_FEED, LINES_BUFFERS_FIRST,
     LINES_LOOKS_AT_ALL, LINES_LOOKS_BEHIND, LINES_CHANGES_ON_REFUSAL, LINES_CUTS_LENGTH,
     FAULTS
 };
@@ -315,17 +315,16 @@ static void spoil_lines(uint8_t *lines, size_t lines_len, uint32_t *starts,
     }
 }
 
-/* Whether the character that decided lies between two others. */
-static bool decided_by(const struct pl022_text *answer, const uint8_t *text, size_t text_len,
-                       uint8_t low, uint8_t high)
+/* Where the character stands that was refused with 17; text_len if none was. */
+static size_t bad_place(const struct pl022_text *answer, const uint8_t *text, size_t text_len)
 {
     for (size_t n = 0; answer->refusal == PL022_BAD_CHARACTER && n < text_len; n++) {
         bool digit = (text[n] >= '0' && text[n] <= '9') || (text[n] >= 'A' && text[n] <= 'F');
         if (!digit && text[n] != '\n') {
-            return text[n] >= low && text[n] <= high;
+            return n;
         }
     }
-    return false;
+    return text_len;
 }
 
 struct pl022_text __wrap_pl022_read_text(const uint8_t *text, size_t text_len,
@@ -341,14 +340,16 @@ struct pl022_text __wrap_pl022_read_text(const uint8_t *text, size_t text_len,
     struct pl022_text answer = __real_pl022_read_text(text, text_len, lines, lines_len,
                                                       starts, starts_len);
     uint64_t number = answer.refusal;
+    size_t bad = bad_place(&answer, text, text_len);
+    bool lower_case = bad < text_len && text[bad] >= 'a' && text[bad] <= 'f';
+    bool cr_lf = text_len - bad > 1 && text[bad] == '\r' && text[bad + 1] == '\n';
     if (number == PL022_DONE) {
         spoil_lines(lines, lines_len, starts, &answer);
     }
     if (due(LINES_STARTS_WITH_REFUSAL, number != PL022_DONE)) {
         answer.starts = 1;
     }
-    if (due(LINES_TAKES_LOWER_CASE, decided_by(&answer, text, text_len, 'a', 'f'))
-        || due(LINES_TAKES_CR, decided_by(&answer, text, text_len, '\r', '\r'))
+    if (due(LINES_TAKES_LOWER_CASE, lower_case) || due(LINES_TAKES_CR_LF, cr_lf)
         || due(LINES_TAKES_NO_LINE_FEED, number == PL022_NO_LINE_FEED)) {
         answer.refusal = PL022_DONE;
     }

@@ -81,7 +81,7 @@ read text gives starts with a refusal
 read text gives one start too few
 read text gives another line start
 read text takes a lower-case digit
-read text takes a carriage return
+read text takes CR LF as the end of a line
 read text takes a text without last line feed
 read text looks at the buffers first
 read text looks past the place that decides

@@ -231,6 +231,17 @@ static void add_noise(size_t at)
     draw_bytes(text.data + at + 1, text.length - at - 1);
 }
 
+/* Ends the line of place at with CR LF; nothing else is wrong with the text. */
+static void end_with_cr_lf(size_t at)
+{
+    while (text.data[at] != '\n') {
+        at++;
+    }
+    memmove(text.data + at + 1, text.data + at, text.length - at);
+    text.data[at] = '\r';
+    text.length++;
+}
+
 /*
  * Cuts the text, or puts a place into it that decides: up to there it is one that was
  * written. Returns the number that is due.
@@ -240,6 +251,10 @@ static uint64_t decide(void)
     size_t at = draw_between(0, (uint32_t)text.length);
     bool start = at_line_start(at);
 
+    if (at < text.length && draw_one_in(8)) {
+        end_with_cr_lf(at);
+        return PL022_BAD_CHARACTER;
+    }
     if (draw_one_in(3)) {
         text.length = at;
         return start ? PL022_DONE : PL022_NO_LINE_FEED;

@@ -1,8 +1,8 @@
 /*
  * pl022.h: a software model of ARM's PL022 serial port, called from C or C++.
  *
- * A device is a record of PL022_RECORD_LENGTH bytes that you own. Lend it to
- * every call; there is no other state, no allocation and no global, so any
+ * A device is a record of PL022_RECORD_LENGTH bytes that you own. Lend it to every
+ * call on the device; there is no other state, no allocation and no global, so any
  * number of devices may exist at the same time, and a copy of the bytes is a copy of
  * the device. Begin with pl022_reset.
  *
@@ -32,7 +32,7 @@
  *     10 PL022_WRONG_LENGTH     the record is not 128 bytes              all that take one
  *     11 PL022_LINES_DIFFER     input_len and output_len differ          run, run to idle
  *     12 PL022_BAD_INPUT        an input byte is above 7                 run, run to idle
- *      9 PL022_UNSOUND          the record is not sound                  the same but reset
+ *      9 PL022_UNSOUND          the record is not sound                  the same as 10 but reset
  *      1 PL022_BAD_OFFSET       offset not a multiple of 4, or 0x1000
  *                               and up                                   read, write
  *      2 PL022_RESERVED         reserved offset, 0x28 to 0xFDC           read, write

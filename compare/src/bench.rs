@@ -261,7 +261,7 @@ impl<'m> Bench<'m> {
         {
             text += &format!("# {name} refusal {} value {}", outcome.refusal, outcome.value);
             text += &format!(" output {}\n", hex(&outcome.output));
-            if !outcome.starts.is_empty() {
+            if outcome.lines != 0 || !outcome.starts.is_empty() {
                 text += &format!("# {name} lines {}", outcome.lines);
                 text += &format!(" starts {}\n", numbers(&outcome.starts));
             }

@@ -59,7 +59,7 @@ struct text_lent {
 struct text_attempt {
     uint32_t refusal;           /* expected */
     const char *text;           /* to be read; NULL: cycles are written */
-    size_t cycles;              /* to be written, or places for those that are read */
+    size_t cycles;              /* to be written, or room for those that are read */
     uint8_t last;               /* the last cycle to be written */
     uint32_t place;             /* the second one; the first is 0 */
     size_t room;                /* bytes for the text to be written */

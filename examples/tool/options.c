@@ -118,6 +118,13 @@ void options_file_message(const char *name, int reason)
     fprintf(stderr, "pl022: %s: %s\n", name, strerror(reason != 0 ? reason : EIO));
 }
 
+void options_keep_error(int *error)
+{
+    if (*error == 0) {
+        *error = errno != 0 ? errno : EIO;
+    }
+}
+
 const char *options_input_name(const struct options *options)
 {
     return options->input == NULL ? "stdin" : options->input;

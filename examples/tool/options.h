@@ -48,4 +48,10 @@ bool options_open_outputs(const struct options *options, FILE *script, FILE *fil
 /* Prints a message about a file and the reason, an errno value; 0 if none was left. */
 void options_file_message(const char *name, int reason);
 
+/*
+ * Keeps errno, EIO if none was left, as the reason of a failed write. Only the first failure
+ * is kept: it names the cause, later ones follow from it.
+ */
+void options_keep_error(int *error);
+
 #endif

@@ -3,6 +3,8 @@
 #include <errno.h>
 #include <string.h>
 
+#include "options.h"
+
 void recorder_begin(struct recorder *recorder, FILE *file)
 {
     *recorder = (struct recorder){.file = file, .master = DEVICES};
@@ -86,14 +88,6 @@ bool recorder_add(struct recorder *recorder, const struct bench *bench)
     return true;
 }
 
-/* Only the first failure is kept: it names the cause, later ones follow from it. */
-static void keep_error(struct recorder *recorder)
-{
-    if (recorder->error == 0) {
-        recorder->error = errno != 0 ? errno : EIO;
-    }
-}
-
 /* Without a master there are no cycles to write, and the file stays empty. */
 static void write_track(struct recorder *recorder)
 {
@@ -107,7 +101,7 @@ static void write_track(struct recorder *recorder)
     recorder->refusal = written.refusal;
     errno = 0;
     if (fwrite(text, 1, (size_t)written.count, recorder->file) < written.count) {
-        keep_error(recorder);
+        options_keep_error(&recorder->error);
     }
 }
 
@@ -116,7 +110,7 @@ void recorder_end(struct recorder *recorder)
     write_track(recorder);
     errno = 0;
     if (fclose(recorder->file) != 0) {
-        keep_error(recorder);
+        options_keep_error(&recorder->error);
     }
     recorder->file = NULL;
 }

@@ -231,7 +231,7 @@ expected_digits() {
     }'
 }
 
-# expected_rows SCRIPT ANSWERS: the same from the commands and their answers.
+# expected_rows SCRIPT ANSWERS: the rows of a diagram, from the commands and their answers.
 expected_rows() {
     commands_of "$1" | awk -v answers="$2" '
     function single(d, input, output, k, drawn) {
@@ -878,7 +878,7 @@ done
 mkdir "$dir/names"
 cp "$dir/p4" "$dir/names/--ascii"
 cp "$scripts/p4.txt" "$dir/names/text"
-# named NAME WORDS...: the last run, in that folder, without a message.
+# named NAME WORDS...: runs the tool in that folder, which must be done without a message.
 named() {
     name=$1
     shift

@@ -1,8 +1,9 @@
 #include "vcd.h"
 
-#include <errno.h>
 #include <inttypes.h>
 #include <stdarg.h>
+
+#include "options.h"
 
 static const struct wire {
     const char *name;
@@ -19,14 +20,6 @@ static const struct wire {
 
 enum { WIRES = sizeof wires / sizeof wires[0] };
 
-/* Only the first failure is kept: it names the cause, later ones follow from it. */
-static void keep_error(struct vcd *vcd)
-{
-    if (vcd->error == 0) {
-        vcd->error = errno != 0 ? errno : EIO;
-    }
-}
-
 static void put(struct vcd *vcd, const char *format, ...)
 {
     if (vcd->error != 0) {
@@ -35,7 +28,7 @@ static void put(struct vcd *vcd, const char *format, ...)
     va_list arguments;
     va_start(arguments, format);
     if (vfprintf(vcd->file, format, arguments) < 0) {
-        keep_error(vcd);
+        options_keep_error(&vcd->error);
     }
     va_end(arguments);
 }
@@ -133,7 +126,7 @@ void vcd_end(struct vcd *vcd)
         put(vcd, "#%" PRIu64 "\n", vcd->time);
     }
     if (fclose(vcd->file) != 0) {
-        keep_error(vcd);
+        options_keep_error(&vcd->error);
     }
     vcd->file = NULL;
 }

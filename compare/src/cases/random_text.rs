@@ -6,7 +6,7 @@ use crate::random::Random;
 use crate::text::MOST_CYCLES;
 
 /// Texts of one case.
-pub const TEXTS: u64 = 500;
+pub const TEXTS: u64 = 1000;
 
 /// Just beside the digits and the line feed, and others that texts elsewhere have.
 const OTHERS: &[u8] = b"/:@G`agf\x09\x0B\r\0 \x80\xFF-x";

@@ -10,7 +10,7 @@ use borrow.Author.Tests.{eqb-true, leb-true, lt-ltb, le-ltb, le-leb, lt-leb, ne-
 use Rattle.text.specs.Choose.{pick}
 use Rattle.text.specs.Refusals.{done, firstOf}
 use Rattle.text.specs.Text.{lineFeed, digitOf, characterOf, isDigit}
-use Rattle.text.specs.Read.{valueOf}
+use Rattle.text.specs.Read.{valueOf, DigitValue}
 use Rattle.text.specs.declared.characters.Character.{Character}
 use Rattle.text.specs.declared.characters.Character.the-variants.{Digit, LineFeed, Other}
 
@@ -139,3 +139,9 @@ digit-value x e = go (leb 48 x && leb x 57) (leb 65 x && leb x 70) refl refl (di
         let u = leb-true x 70 (and-split (leb 65 x) (leb x 70) q .1) in
         read-letter x l u ∙ ap Digit (rw (le-leb 65 x l) (omega arith))
     go false false p q o = absurd (false≢true (sym (rw (p, q)) ∙ o))
+
+pub value-of-digit : DigitValue
+unfolding DigitValue
+value-of-digit x d q =
+    let e : suc (valueOf x) ≡ suc d = ap value (sym (digit-value x (ap isDigit q)) ∙ q) in
+    omega arith

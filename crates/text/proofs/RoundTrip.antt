@@ -14,7 +14,7 @@ use Rattle.text.specs.Refusals.{done, noLineFeed, firstOf}
 use Rattle.text.specs.Text.{lineFeed, digitOf, characterOf, isDigit, mostCycles, cyclesFit, placesFit, lineOf, lineEnd, lineStarts, between, linesFrom, textOf, over}
 use Rattle.text.specs.Write.{recordingRefusal, writeRefusal, writtenNumbers, writeAnswer, writeLeft, WriteText}
 use Rattle.text.specs.Read.{cycleAt, startAt, refusalAt, refusalAtEnd, cyclesIn, startsFrom, startsIn, refusalFrom, textRefusal, readRefusal, readingNumbers, readAnswer, ReadText}
-use Rattle.text.specs.RoundTrip.{Readable, Writable, Inverse, Gives, RoundTrip, FirstDecides, PlaceZero, Enough, p4Lines, p4Text, Examples}
+use Rattle.text.specs.RoundTrip.{Readable, Writable, Inverse, Gives, RoundTrip, FirstDecides, StartsAsPlaces, Enough, p4Recording, p4Text, Examples}
 use Rattle.text.specs.declared.characters.Character.{Character}
 use Rattle.text.specs.declared.characters.Character.the-variants.{Digit, LineFeed, Other}
 use Rattle.text.specs.declared.write.Written.{Written}
@@ -140,7 +140,7 @@ readable : (cs ps : List ℕ) → recordingRefusal cs ps ≡ done → Readable c
 unfolding textOf
 readable cs ps e =
     let a = recording-accepted cs ps e in
-    let g = all-given cs (a .cycles) (a .most) (lineStarts cs ps) (starts-fit cs ps (a .places)) (first-zero cs ps) in
+    let g = all-given cs (a .cycles) (a .most) (lineStarts cs ps) (starts-fit cs ps ∙ a .places) (first-zero cs ps) in
     record { accepted = g .refusal; cycles = g .cycles; starts = g .starts }
 
 -- Writing what was read ------------------------------------------------------------------------------------------------
@@ -419,16 +419,31 @@ first-decides =
 
 -- Other statements -----------------------------------------------------------------------------------------------------
 
-pub place-zero : PlaceZero
-unfolding PlaceZero textOf lineStarts linesFrom
-place-zero c cs = rw (lt-ltb 0 (length (c ∷ cs)) (omega arith))
+starts-refusal : (cs ps : List ℕ) → recordingRefusal cs (lineStarts cs ps) ≡ recordingRefusal cs ps
+unfolding recordingRefusal
+starts-refusal cs ps = rw (starts-fit cs ps)
+
+starts-stay : (cs ss : List ℕ) → lineEnd (length cs) ss ≡ 0 → lineStarts cs ss ≡ ss
+unfolding lineStarts
+starts-stay cs ss e = rw e
+
+starts-text : (cs ps : List ℕ) → textOf cs (lineStarts cs ps) ≡ textOf cs ps
+unfolding textOf
+starts-text cs ps = ap (linesFrom cs) (starts-stay cs (lineStarts cs ps) (first-zero cs ps))
+
+starts-none : (c : ℕ) (cs : List ℕ) → lineStarts (c ∷ cs) [] ≡ 0 ∷ []
+unfolding lineStarts
+starts-none c cs = rw (lt-ltb 0 (length (c ∷ cs)) (omega arith))
+
+pub starts-as-places : StartsAsPlaces
+starts-as-places = record { refusal = starts-refusal; text = starts-text; none = starts-none }
 
 text-enough : (cs ps : List ℕ) → recordingRefusal cs ps ≡ done → length (textOf cs ps) ≤ 2 * mostCycles
 text-enough cs ps e =
     let a = recording-accepted cs ps e in
     let m = a .most in
     let l = length-text cs ps (a .places) in
-    let f = places-few 0 (length cs) (lineStarts cs ps) (starts-fit cs ps (a .places)) (omega arith) in
+    let f = places-few 0 (length cs) (lineStarts cs ps) (starts-fit cs ps ∙ a .places) (omega arith) in
     omega arith
 
 starts-enough : (text : List ℕ) → textRefusal text ≡ done → length (startsIn text) ≤ mostCycles
@@ -441,5 +456,17 @@ pub enough : Enough
 enough = record { text = text-enough; cycles = λ text e. (let m = cycles-most 0 false text e (omega arith) in omega arith); starts = starts-enough }
 
 pub examples : Examples
-unfolding p4Lines p4Text textOf lineStarts linesFrom lineOf digitOf characterOf refusalFrom cyclesIn startsFrom
-examples = record { written = refl; accepted = refl; cycles = refl; starts = refl; p4Written = refl; p4Accepted = refl; p4Cycles = refl; p4Starts = refl }
+unfolding p4Recording p4Text recordingRefusal cyclesFit placesFit textOf lineStarts linesFrom lineOf digitOf characterOf refusalFrom cyclesIn startsFrom
+examples =
+    record {
+      writable = refl;
+      written = refl;
+      accepted = refl;
+      cycles = refl;
+      starts = refl;
+      p4Writable = refl;
+      p4Written = refl;
+      p4Accepted = refl;
+      p4Cycles = refl;
+      p4Starts = refl;
+    }

@@ -97,22 +97,27 @@ length-line cs = length-mapped digitOf cs (lineFeed ∷ [])
 pub length-between : (s t : ℕ) (cs : List ℕ) → t ≤ length cs → length (between s t cs) ≡ t - s
 length-between s t cs h = length-take-le (t - s) (drop s cs) (rw (length-drop s cs) (omega arith))
 
--- Line starts are places too.
-pub starts-fit : (cs ps : List ℕ) → placesFit 0 (length cs) ps ≡ true → placesFit 0 (length cs) (lineStarts cs ps) ≡ true
+and-implied : (a b c : Bool) → (b ≡ true → a ≡ true) → (a && (b && c)) ≡ (b && c)
+and-implied a true c f = rw (f refl)
+and-implied true false c f = refl
+and-implied false false c f = refl
+
+-- Line starts are places exactly if the places are.
+pub starts-fit : (cs ps : List ℕ) → placesFit 0 (length cs) (lineStarts cs ps) ≡ placesFit 0 (length cs) ps
 unfolding lineStarts placesFit
-starts-fit cs [] e = go (ltb 0 (length cs)) refl
+starts-fit cs [] = go (ltb 0 (length cs)) refl
   where
     go : (t : Bool) → ltb 0 (length cs) ≡ t → placesFit 0 (length cs) (pick {A = List ℕ} t (0 ∷ []) []) ≡ true
-    go true h = places-join 0 (length cs) 0 [] (omega arith) (ltb-true 0 (length cs) h) e
-    go false h = e
-starts-fit cs (p ∷ ps) e = go (ltb 0 p) refl
+    go true h = rw h
+    go false h = refl
+starts-fit cs (p ∷ ps) = go (ltb 0 p) refl
   where
-    go : (t : Bool) → ltb 0 p ≡ t → placesFit 0 (length cs) (pick t (0 ∷ p ∷ ps) (p ∷ ps)) ≡ true
+    go : (t : Bool) → ltb 0 p ≡ t → placesFit 0 (length cs) (pick t (0 ∷ p ∷ ps) (p ∷ ps)) ≡ placesFit 0 (length cs) (p ∷ ps)
     go true h =
-        let s = places-split 0 (length cs) p ps e in
         let a = ltb-true 0 p h in
-        places-join 0 (length cs) 0 (p ∷ ps) (omega arith) (let q = s .1 in omega arith) (places-join 1 (length cs) p ps (omega arith) (s .1) (s .2))
-    go false h = e
+        rw (le-leb 1 p (omega arith), le-leb 0 p (omega arith))
+        (and-implied (ltb 0 (length cs)) (ltb p (length cs)) (placesFit (p + 1) (length cs) ps) (λ e. let l = ltb-true p (length cs) e in lt-ltb 0 (length cs) (omega arith)))
+    go false h = refl
 
 -- Lines from a start on: a digit for each cycle, a line feed for each line.
 length-lines : (cs : List ℕ) (low s : ℕ) (ss : List ℕ) → placesFit low (length cs) (s ∷ ss) ≡ true → length (linesFrom cs (s ∷ ss)) + s ≡ length cs + length (s ∷ ss)
@@ -145,7 +150,7 @@ first-zero cs ps = go (ltb 0 (lineEnd (length cs) ps)) refl
 -- A text has a digit for each cycle and a line feed for each line.
 pub length-text : (cs ps : List ℕ) → placesFit 0 (length cs) ps ≡ true → length (textOf cs ps) ≡ length cs + length (lineStarts cs ps)
 unfolding textOf linesFrom
-length-text cs ps e = go (lineStarts cs ps) (starts-fit cs ps e) (first-zero cs ps)
+length-text cs ps e = go (lineStarts cs ps) (starts-fit cs ps ∙ e) (first-zero cs ps)
   where
     go : (ss : List ℕ) → placesFit 0 (length cs) ss ≡ true → lineEnd (length cs) ss ≡ 0 → length (linesFrom cs ss) ≡ length cs + length ss
     go [] f z = omega arith

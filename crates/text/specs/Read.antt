@@ -69,7 +69,7 @@ textRefusal text = refusalFrom 0 false text
 
 -- cb and sb are the lent buffers for cycles and line starts.
 
--- These, then 16 if a lent buffer is shorter than what goes into it; nothing else is refused.
+-- 17, 18, 13 or 19 of the text, then 16 if a lent buffer is shorter than what goes into it; nothing else is refused.
 unfoldable pub readRefusal : List ℕ → List ℕ → List ℕ → ℕ
 readRefusal text cb sb =
     firstOf (textRefusal text)
@@ -103,9 +103,13 @@ pub record ReadText (text cb sb : List ℕ) (r : Reading) (cb′ sb′ : List �
 
 -- The parts of the code ------------------------------------------------------------------------------------------------
 
--- The cycle of a digit by arithmetic: 48 and 64 are multiples of 16.
+-- The cycle of a digit by arithmetic: 48 and 64 are multiples of 16. Of any other byte the value means nothing.
 unfoldable pub valueOf : ℕ → ℕ
 valueOf x = x % 16 + 9 * boolByte (leb 65 x)
+
+-- It is the cycle that the digit stands for.
+unfoldable pub DigitValue : Type 0
+DigitValue = (x d : ℕ) → characterOf x ≡ Digit d → valueOf x ≡ d
 
 -- How many elements come before the first that fails a test.
 unfoldable pub leading : (ℕ → Bool) → List ℕ → ℕ

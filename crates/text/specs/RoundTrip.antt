@@ -57,9 +57,14 @@ pub record FirstDecides : Type 0 where
   -- so a refusal stays, but for 19
   pub stays : (text more : List ℕ) → (textRefusal text ≡ done → ⊥) → (textRefusal text ≡ noLineFeed → ⊥) → textRefusal (text ++ more) ≡ textRefusal text
 
--- If there are cycles, no place and a place at cycle 0 give one text.
-unfoldable pub PlaceZero : Type 0
-PlaceZero = (c : ℕ) (cs : List ℕ) → textOf (c ∷ cs) [] ≡ textOf (c ∷ cs) (0 ∷ [])
+-- Places count by the line starts that they make.
+pub record StartsAsPlaces : Type 0 where
+  -- with these as places a recording is refused alike
+  pub refusal : (cs ps : List ℕ) → recordingRefusal cs (lineStarts cs ps) ≡ recordingRefusal cs ps
+  -- and gives one text
+  pub text : (cs ps : List ℕ) → textOf cs (lineStarts cs ps) ≡ textOf cs ps
+  -- so that with cycles it makes no difference whether there is no place, or one at cycle 0
+  pub none : (c : ℕ) (cs : List ℕ) → lineStarts (c ∷ cs) [] ≡ 0 ∷ []
 
 -- How much is always enough: a digit and a line feed for each cycle; as many line starts as cycles.
 pub record Enough : Type 0 where
@@ -70,20 +75,22 @@ pub record Enough : Type 0 where
 -- Worked examples ------------------------------------------------------------------------------------------------------
 
 -- The cycles of P4, and its text: BA541054 and 3210541054, each with its line feed.
-unfoldable pub p4Lines : List ℕ
-p4Lines = 11 ∷ 10 ∷ 5 ∷ 4 ∷ 1 ∷ 0 ∷ 5 ∷ 4 ∷ 3 ∷ 2 ∷ 1 ∷ 0 ∷ 5 ∷ 4 ∷ 1 ∷ 0 ∷ 5 ∷ 4 ∷ []
+unfoldable pub p4Recording : List ℕ
+p4Recording = 11 ∷ 10 ∷ 5 ∷ 4 ∷ 1 ∷ 0 ∷ 5 ∷ 4 ∷ 3 ∷ 2 ∷ 1 ∷ 0 ∷ 5 ∷ 4 ∷ 1 ∷ 0 ∷ 5 ∷ 4 ∷ []
 
 unfoldable pub p4Text : List ℕ
 p4Text = 66 ∷ 65 ∷ 53 ∷ 52 ∷ 49 ∷ 48 ∷ 53 ∷ 52 ∷ 10 ∷ 51 ∷ 50 ∷ 49 ∷ 48 ∷ 53 ∷ 52 ∷ 49 ∷ 48 ∷ 53 ∷ 52 ∷ 10 ∷ []
 
 pub record Examples : Type 0 where
   -- no cycles, thus no place: the empty text, which is read as such
+  pub writable : recordingRefusal [] [] ≡ done
   pub written : textOf [] [] ≡ []
   pub accepted : textRefusal [] ≡ done
   pub cycles : cyclesIn [] ≡ []
   pub starts : startsIn [] ≡ []
   -- P4 with its places 0 and 8
-  pub p4Written : textOf p4Lines (0 ∷ 8 ∷ []) ≡ p4Text
+  pub p4Writable : recordingRefusal p4Recording (0 ∷ 8 ∷ []) ≡ done
+  pub p4Written : textOf p4Recording (0 ∷ 8 ∷ []) ≡ p4Text
   pub p4Accepted : textRefusal p4Text ≡ done
-  pub p4Cycles : cyclesIn p4Text ≡ p4Lines
+  pub p4Cycles : cyclesIn p4Text ≡ p4Recording
   pub p4Starts : startsIn p4Text ≡ 0 ∷ 8 ∷ []

@@ -55,7 +55,7 @@ placesFit low n (p ∷ ps) = (leb low p && ltb p n) && placesFit (p + 1) n ps
 unfoldable pub lineOf : List ℕ → List ℕ
 lineOf cs = map digitOf cs ++ (lineFeed ∷ [])
 
--- Where a line ends: with the next place, or with the last cycle.
+-- Where a line ends: before the next place, or behind the last cycle.
 abbrev pub lineEnd : ℕ → List ℕ → ℕ
 lineEnd n [] = n
 lineEnd n (p ∷ ps) = p
@@ -64,7 +64,7 @@ lineEnd n (p ∷ ps) = p
 unfoldable pub lineStarts : List ℕ → List ℕ → List ℕ
 lineStarts cs ps = pick (ltb 0 (lineEnd (length cs) ps)) (0 ∷ ps) ps
 
--- The cycles from s up to t.
+-- The cycles from s on, up to the one before t.
 abbrev pub between : ℕ → ℕ → List ℕ → List ℕ
 between s t cs = take (t - s) (drop s cs)
 
@@ -83,7 +83,7 @@ textOf cs ps = linesFrom cs (lineStarts cs ps)
 unfoldable pub over : List ℕ → List ℕ → List ℕ
 over part before = part ++ drop (length part) before
 
--- A part was written from `at` on, and what lies around it stays.
+-- A part was written from `at` on, and what lies around it stays; `behind` is the place after the part.
 pub record Put (before : List ℕ) (at : ℕ) (part : List ℕ) (behind : ℕ) (after : List ℕ) : Type 0 where
   pub next : behind ≡ at + length part
   pub put : after ≡ paste before at part (length part)

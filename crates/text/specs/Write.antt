@@ -19,7 +19,7 @@ recordingRefusal cs ps =
     (pick (not (placesFit 0 (length cs) ps)) badPlaces
     done))
 
--- These, then 16; nothing else is refused.
+-- 13, 14, 15, then 16; nothing else is refused.
 unfoldable pub writeRefusal : List ℕ → List ℕ → List ℕ → ℕ
 writeRefusal cs ps buffer = firstOf (recordingRefusal cs ps) (pick (ltb (length buffer) (length (textOf cs ps))) tooShort done)
 

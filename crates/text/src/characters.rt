@@ -30,7 +30,7 @@ pub fn is_digit(byte: u8) -> bool
     ((48 <= byte) & (byte <= 57)) | ((65 <= byte) & (byte <= 70))
 }
 
-// The cycle of a digit. No branch: a loop then takes many digits at once.
+// The cycle of a digit; of another byte the value means nothing. No branch: a loop then takes many digits at once.
 pub fn value_of(byte: u8) -> u8
     ensures { λ r. ⌜ r ≡ valueOf byte ⌝ }
 {

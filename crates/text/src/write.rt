@@ -74,7 +74,7 @@ fn recording_refusal(cycles: &[u8], places: &[u32]) -> u8
     }
 }
 
-// Where the line before place k ends: there, or with the last cycle.
+// Where the line before place k ends: there, or behind the last cycle.
 fn line_end(count: usize, places: &[u32], k: usize) -> usize
     ensures { λ r. ⌜ r ≡ lineEnd count (drop k (now (places .entry))) ⌝ }
 {
@@ -85,7 +85,7 @@ fn line_end(count: usize, places: &[u32], k: usize) -> usize
     }
 }
 
-// These, then 16.
+// Refusals 13 to 15, then 16.
 fn write_refusal(cycles: &[u8], places: &[u32], text: &[u8]) -> u8
     ensures { λ r. ⌜ r ≡ writeRefusal (now (cycles .entry)) (now (places .entry)) (now (text .entry)) ⌝ }
 {
@@ -154,7 +154,7 @@ fn put_text(cycles: &[u8], places: &[u32], text: &mut [u8]) -> usize
     put_lines(cycles, places, text, start)
 }
 
-// Writes a recording as text: a line from each place on, and one before the first, if cycles precede it; without a place one line.
+// Writes a recording as text: a line from each place on, and one before the first, if cycles precede it; without a place all cycles are one line.
 pub fn write_text(cycles: &[u8], places: &[u32], text: &mut [u8]) -> Written
     ensures { λ r. ⌜ WriteText (now (cycles .entry)) (now (places .entry)) (now (text .entry)) r (now (text .exit)) ⌝ }
 {

@@ -140,7 +140,7 @@ fn agree(runners: &[Runner]) -> bool {
 pub fn measure(cycles: u64) -> bool {
     let sample = sample();
     let bytes = sample.text.len();
-    let rounds = (cycles / CYCLES_A_BYTE).div_ceil(LAPS * bytes as u64);
+    let rounds = (cycles / CYCLES_A_BYTE).div_ceil(LAPS * bytes as u64).max(1);
     let title = format!("a text of 4,096 cycles in lines of 36, {bytes} bytes");
     let written = measure_one(&format!("{title}, written"), Runner::write_lap, &sample, rounds);
     measure_one(&format!("{title}, read"), Runner::read_lap, &sample, rounds) && written
