@@ -1,7 +1,7 @@
 #!/bin/sh
 # Tests the second program, then compares the proved library with it call by call.
-# Ends with two lines of counts, of texts and of devices; any difference gives a status other
-# than 0, and so do too few calls on devices or random texts.
+# Ends with three lines of counts, of frames with SSE clear, of texts and of devices; any
+# difference gives a status other than 0, and so do too few calls on devices or random texts.
 # usage: run.sh
 #
 #   PL022_ARCHIVE     the library, a file libpl022.a that must be there;
@@ -14,8 +14,8 @@ set -eu
 SEED=225eed
 ROUNDS=1000
 SECONDS_AT_MOST=150
-# Far more than the cases make that leave nothing to chance.
-CALLS_AT_LEAST=1000000
+# More than twice what the cases make that leave nothing to chance.
+CALLS_AT_LEAST=2000000
 # All that the rounds make, in about a tenth of the time.
 TEXTS_AT_LEAST=1000000
 
@@ -32,7 +32,7 @@ cargo build --quiet --offline --locked --release --manifest-path "$here/Cargo.to
 compare=$CARGO_TARGET_DIR/release/compare
 
 # The second program on the vectors, then the library beside it.
-vectors=../shared/vectors-2
+vectors=../shared/vectors-5
 if [ -d "$vectors" ]; then
     "$here/vectors.sh" "$vectors"
     for script in "$vectors"/*.in; do

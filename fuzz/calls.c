@@ -18,6 +18,9 @@ static const struct {
     unsigned refusals;
 } facts[CALLS] = {
     [CALL_RESET] = {"reset", ROLE(ROLE_RECORD), 0, NUMBER(PL022_DONE) | NUMBER(PL022_WRONG_LENGTH)},
+    [CALL_RESET_EDITION] = {"reset_edition", ROLE(ROLE_RECORD), 0,
+                            NUMBER(PL022_DONE) | NUMBER(PL022_WRONG_LENGTH)
+                                | NUMBER(PL022_NO_EDITION)},
     [CALL_READ] = {"read", ROLE(ROLE_RECORD), 0,
                    NUMBERS(PL022_DONE, PL022_WRONG_ACCESS)
                        | NUMBERS(PL022_QUEUE_EMPTY, PL022_WRONG_LENGTH)},
@@ -65,6 +68,11 @@ bool call_may_answer(enum call call, uint64_t refusal)
     return refusal < REFUSALS && (facts[call].refusals >> refusal & 1) != 0;
 }
 
+bool call_resets(enum call call)
+{
+    return call == CALL_RESET || call == CALL_RESET_EDITION;
+}
+
 bool call_runs_lines(enum call call)
 {
     return call_lends(call, ROLE_INPUT);
@@ -105,6 +113,9 @@ static void pass_record(const struct request *request, const struct loan loans[R
     switch (request->call) {
     case CALL_RESET:
         word.refusal = pl022_reset(record->bytes, record->length);
+        break;
+    case CALL_RESET_EDITION:
+        word.refusal = pl022_reset_edition(record->bytes, record->length, request->value);
         break;
     case CALL_READ:
         word = pl022_read(record->bytes, record->length, request->offset);
@@ -164,6 +175,12 @@ size_t call_wrote(const struct request *request, const struct outcome *outcome, 
         return request->lent[ROLE_INPUT].length;
     }
     return role == ROLE_PLACES ? (size_t)outcome->starts * PLACE_SIZE : (size_t)outcome->result;
+}
+
+uint64_t call_ran(const struct request *request, const struct outcome *outcome)
+{
+    return request->call == CALL_PAIR_RUN ? request->cycles
+         : call_runs_lines(request->call) ? call_wrote(request, outcome, ROLE_OUTPUT) : 0;
 }
 
 uint32_t place_get(const struct bytes *places, size_t n)

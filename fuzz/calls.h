@@ -11,7 +11,8 @@
 #include "pl022.h"
 
 enum call {
-    CALL_RESET, CALL_READ, CALL_WRITE, CALL_RUN, CALL_RUN_TO_IDLE, CALL_PAIR_RUN,
+    CALL_RESET, CALL_RESET_EDITION, CALL_READ, CALL_WRITE,
+    CALL_RUN, CALL_RUN_TO_IDLE, CALL_PAIR_RUN,
     CALL_WRITE_TEXT, CALL_READ_TEXT,
     CALLS
 };
@@ -22,7 +23,7 @@ enum role {
     ROLES
 };
 
-enum { LENT_LIMIT = 20480, REFUSALS = PL022_NO_LINE_FEED + 1 };
+enum { LENT_LIMIT = 20480, REFUSALS = PL022_NO_EDITION + 1 };
 
 /* A place as it lies in the bytes that are lent. */
 enum { PLACE_SIZE = sizeof(uint32_t) };
@@ -46,7 +47,7 @@ struct due {
 struct request {
     enum call call;
     uint32_t offset;
-    uint32_t value;
+    uint32_t value; /* of a write; the edition of a reset */
     uint64_t cycles;
     struct due due; /* of a reading */
     /* Every lent record was served once, and only calls have changed it since. */
@@ -75,11 +76,17 @@ bool call_fills(enum call call, enum role role);
 /* Whether the header lists this refusal number for the call. */
 bool call_may_answer(enum call call, uint64_t refusal);
 
+/* Whether the call makes a device, whatever the record held. */
+bool call_resets(enum call call);
+
 /* Whether the call runs cycles from an input to an output buffer. */
 bool call_runs_lines(enum call call);
 
 /* Makes the call on buffers placed at random; fails if a byte around them changed. */
 void call_make(const struct request *request, struct outcome *outcome);
+
+/* How many cycles a done call ran. */
+uint64_t call_ran(const struct request *request, const struct outcome *outcome);
 
 /* How many bytes a done call wrote into a buffer that it fills; 0 for others. */
 size_t call_wrote(const struct request *request, const struct outcome *outcome, enum role role);

@@ -5,10 +5,12 @@
  */
 #include <stdbool.h>
 #include <stdlib.h>
+#include <string.h>
 
 #include "pl022.h"
 
 uint32_t __real_pl022_reset(uint8_t *, size_t);
+uint32_t __real_pl022_reset_edition(uint8_t *, size_t, uint32_t);
 struct pl022_word __real_pl022_read(uint8_t *, size_t, uint32_t);
 uint32_t __real_pl022_write(uint8_t *, size_t, uint32_t, uint32_t);
 uint32_t __real_pl022_run(uint8_t *, size_t, const uint8_t *, size_t, uint8_t *, size_t);
@@ -22,14 +24,18 @@ struct pl022_text __real_pl022_read_text(const uint8_t *, size_t, uint8_t *, siz
 
 /* faults.sh says them in words, in this order. */
 enum {
-    RESET_LEAVES_A_BYTE = 1, RESET_TAKES_127,
+    RESET_LEAVES_A_BYTE = 1, RESET_TAKES_127, RESET_KEEPS_EDITION,
+    EDITION_SWAPS_ORDER, EDITION_TAKES_3, EDITION_CUTS_NUMBER, EDITION_GIVES_1,
+    EDITION_CHANGES_ON_REFUSAL,
     READ_WORD_WITH_REFUSAL, READ_CHANGES_RECORD, READ_LOOKS_BEHIND, READ_LOOKS_BEFORE,
     READ_CUTS_LENGTH, READ_OTHER_FLAG, READ_OTHER_INTERRUPT, READ_BOUNDS_CONTROL,
+    READ_SERVES_EDITION_3, READ_SERVES_STOPPED_IN_1,
     WRITE_CHANGES_ON_REFUSAL, WRITE_LOSES_A_BIT, WRITE_UNSOUND_FOR_SOUND, WRITE_SWAPS_ORDER,
-    WRITE_LEAVES_UNSOUND,
+    WRITE_LEAVES_UNSOUND, WRITE_TAKES_CPSR_IN_FRAME, WRITE_DROPS_FRAME, WRITE_BEGINS_ANEW,
     RUN_WRITES_BEHIND, RUN_WRITES_BEFORE, RUN_LOOKS_BEHIND, RUN_LOOKS_AT_NOTHING,
     RUN_CHANGES_INPUT, RUN_HIGH_OUTPUT, RUN_HIDDEN_STATE, RUN_LENGTH_MATTERS, RUN_SKIPS_OUTPUT,
     RUN_SWAPS_ORDER, RUN_CHANGES_ON_REFUSAL, RUN_ABORTS,
+    RUN_CHANGES_EDITION, RUN_DROPS_FRAME, RUN_TAKES_WITHOUT_SSE, RUN_LEAVES_A_WORD,
     IDLE_WRITES_PAST_COUNT, IDLE_COUNT_WITH_REFUSAL, IDLE_COUNT_LESS, IDLE_LATE,
     PAIR_WRITES_BEHIND, PAIR_ONE_MORE, PAIR_CYCLES_MATTER, PAIR_CHANGES_ON_REFUSAL,
     PAIR_SERVES_UNSOUND,
@@ -69,15 +75,60 @@ static void look(const uint8_t *byte)
     seen = *(const volatile uint8_t *)byte;
 }
 
+static bool in_frame(const uint8_t *record, size_t record_len, uint8_t edition)
+{
+    return record_len == PL022_RECORD_LENGTH && record[PL022_RECORD_FRAME] == 1
+        && record[PL022_RECORD_EDITION] == edition - 1;
+}
+
+/* SSE is clear, and the frame of edition 2 goes on. */
+static bool stopped(const uint8_t *record, size_t record_len)
+{
+    return in_frame(record, record_len, PL022_EDITION_2)
+        && (record[PL022_RECORD_CR1] & PL022_CR1_SSE) == 0;
+}
+
+static void clear_engine(uint8_t *record)
+{
+    memset(record + PL022_RECORD_FRAME, 0, PL022_RECORD_PINS - PL022_RECORD_FRAME);
+}
+
 uint32_t __wrap_pl022_reset(uint8_t *record, size_t record_len)
 {
     if (due(RESET_TAKES_127, record_len == PL022_RECORD_LENGTH - 1)) {
         return PL022_DONE;
     }
     uint8_t first = record_len > 0 ? record[0] : 0;
+    bool second = record_len == PL022_RECORD_LENGTH
+               && record[PL022_RECORD_EDITION] == PL022_EDITION_2 - 1;
     uint32_t refusal = __real_pl022_reset(record, record_len);
     if (due(RESET_LEAVES_A_BYTE, refusal == PL022_DONE)) {
         record[0] = first;
+    }
+    if (due(RESET_KEEPS_EDITION, second)) {
+        record[PL022_RECORD_EDITION] = PL022_EDITION_2 - 1;
+    }
+    return refusal;
+}
+
+uint32_t __wrap_pl022_reset_edition(uint8_t *record, size_t record_len, uint32_t edition)
+{
+    if (due(EDITION_TAKES_3, edition == 3)) {
+        edition = PL022_EDITION_2;
+    }
+    if (chosen(EDITION_CUTS_NUMBER)) {
+        edition &= UINT8_MAX;
+    }
+    if (due(EDITION_GIVES_1, edition == PL022_EDITION_2)) {
+        edition = PL022_EDITION_1;
+    }
+    uint32_t refusal = __real_pl022_reset_edition(record, record_len, edition);
+    if (due(EDITION_SWAPS_ORDER, refusal == PL022_WRONG_LENGTH
+            && edition != PL022_EDITION_1 && edition != PL022_EDITION_2)) {
+        return PL022_NO_EDITION;
+    }
+    if (due(EDITION_CHANGES_ON_REFUSAL, refusal == PL022_NO_EDITION)) {
+        record[PL022_RECORD_EDITION] ^= 1;
     }
     return refusal;
 }
@@ -93,6 +144,17 @@ static bool long_control(const uint8_t *record, size_t record_len)
         && record[PL022_RECORD_CAPTURED] > (record[PL022_RECORD_CR0] & PL022_CR0_DSS_MASK) + 1;
 }
 
+/* Whether a record is served although its edition makes it unsound. */
+static bool serves_edition(const uint8_t *record, size_t record_len)
+{
+    bool enough = record_len == PL022_RECORD_LENGTH;
+    bool disabled = enough && (record[PL022_RECORD_CR1] & PL022_CR1_SSE) == 0;
+
+    return due(READ_SERVES_EDITION_3, enough && record[PL022_RECORD_EDITION] == PL022_EDITION_2)
+        || due(READ_SERVES_STOPPED_IN_1,
+               disabled && in_frame(record, record_len, PL022_EDITION_1));
+}
+
 struct pl022_word __wrap_pl022_read(uint8_t *record, size_t record_len, uint32_t offset)
 {
     if (due(READ_LOOKS_BEHIND, record_len > 0)) {
@@ -106,6 +168,12 @@ struct pl022_word __wrap_pl022_read(uint8_t *record, size_t record_len, uint32_t
     }
     if (due(READ_BOUNDS_CONTROL, long_control(record, record_len))) {
         return (struct pl022_word){PL022_UNSOUND, 0};
+    }
+    if (serves_edition(record, record_len)) {
+        uint8_t copy[PL022_RECORD_LENGTH];
+        memcpy(copy, record, sizeof copy);
+        copy[PL022_RECORD_EDITION] = PL022_EDITION_2 - 1;
+        return __real_pl022_read(copy, sizeof copy, offset);
     }
     struct pl022_word answer = __real_pl022_read(record, record_len, offset);
     if (due(READ_WORD_WITH_REFUSAL, answer.refusal != PL022_DONE)) {
@@ -123,6 +191,24 @@ struct pl022_word __wrap_pl022_read(uint8_t *record, size_t record_len, uint32_t
     return answer;
 }
 
+/* What goes wrong behind a write where the editions differ. */
+static uint32_t spoil_write(uint8_t *record, size_t record_len, uint32_t offset, uint32_t value,
+                            uint32_t refusal, bool was_stopped)
+{
+    bool writes_cr1 = refusal == PL022_DONE && offset == PL022_CR1;
+
+    if (due(WRITE_TAKES_CPSR_IN_FRAME, refusal == PL022_WHILE_ENABLED && was_stopped
+            && offset == PL022_CPSR && value > 1)) {
+        record[PL022_RECORD_CPSR] = (uint8_t)(value & ~1U);
+        return PL022_DONE;
+    }
+    if (due(WRITE_DROPS_FRAME, writes_cr1 && !was_stopped && stopped(record, record_len))
+        || due(WRITE_BEGINS_ANEW, writes_cr1 && was_stopped && (value & PL022_CR1_SSE) != 0)) {
+        clear_engine(record);
+    }
+    return refusal;
+}
+
 uint32_t __wrap_pl022_write(uint8_t *record, size_t record_len, uint32_t offset, uint32_t value)
 {
     bool enough = record_len == PL022_RECORD_LENGTH;
@@ -132,6 +218,7 @@ uint32_t __wrap_pl022_write(uint8_t *record, size_t record_len, uint32_t offset,
     if (due(WRITE_UNSOUND_FOR_SOUND, enough)) {
         return PL022_UNSOUND;
     }
+    bool was_stopped = stopped(record, record_len);
     uint32_t refusal = __real_pl022_write(record, record_len, offset, value);
     if (due(WRITE_CHANGES_ON_REFUSAL, refusal == PL022_QUEUE_FULL)) {
         record[PL022_RECORD_TX_QUEUE + 2 * (PL022_QUEUE_WORDS - 1)] ^= 1;
@@ -144,7 +231,7 @@ uint32_t __wrap_pl022_write(uint8_t *record, size_t record_len, uint32_t offset,
             && (value & PL022_CR1_SSE) == 0)) {
         record[PL022_RECORD_SLOT] = 1;
     }
-    return refusal;
+    return spoil_write(record, record_len, offset, value, refusal, was_stopped);
 }
 
 /* What goes wrong behind a run that was done; old is what the last output byte was. */
@@ -172,6 +259,31 @@ static void spoil_run(uint8_t *record, const uint8_t *input, uint8_t *output, si
     if (due(RUN_SKIPS_OUTPUT, old <= PL022_OUTPUT_MASK)) {
         output[length - 1] = old;
     }
+    if (due(RUN_CHANGES_EDITION, record[PL022_RECORD_EDITION] == PL022_EDITION_1 - 1)) {
+        record[PL022_RECORD_EDITION] = PL022_EDITION_2 - 1;
+    }
+}
+
+/* The same for a device that was stopped in a frame, and had this record. */
+static void spoil_stopped(uint8_t *record, const uint8_t *before, const uint8_t *input,
+                          uint8_t *output, size_t length)
+{
+    uint8_t cr1 = before[PL022_RECORD_CR1];
+
+    if (chosen(RUN_DROPS_FRAME)) {
+        memcpy(record, before, PL022_RECORD_LENGTH);
+        clear_engine(record);
+        __real_pl022_run(record, PL022_RECORD_LENGTH, input, length, output, length);
+    }
+    if (chosen(RUN_TAKES_WITHOUT_SSE)) {
+        memcpy(record, before, PL022_RECORD_LENGTH);
+        __real_pl022_write(record, PL022_RECORD_LENGTH, PL022_CR1, cr1 | PL022_CR1_SSE);
+        __real_pl022_run(record, PL022_RECORD_LENGTH, input, length, output, length);
+        __real_pl022_write(record, PL022_RECORD_LENGTH, PL022_CR1, cr1);
+    }
+    if (due(RUN_LEAVES_A_WORD, record[PL022_RECORD_FRAME] == 0)) {
+        record[PL022_RECORD_TX_WORD] = 1;
+    }
 }
 
 uint32_t __wrap_pl022_run(uint8_t *record, size_t record_len, const uint8_t *input,
@@ -187,9 +299,14 @@ uint32_t __wrap_pl022_run(uint8_t *record, size_t record_len, const uint8_t *inp
         look(input + input_len);
     }
     uint8_t old = output_len > 0 ? output[output_len - 1] : 0;
+    uint8_t before[PL022_RECORD_LENGTH] = {0};
+    memcpy(before, record, record_len < sizeof before ? record_len : sizeof before);
     uint32_t refusal = __real_pl022_run(record, record_len, input, input_len, output, output_len);
     if (refusal == PL022_DONE && output_len > 0) {
         spoil_run(record, input, output, output_len, old);
+        if (stopped(before, record_len)) {
+            spoil_stopped(record, before, input, output, output_len);
+        }
     }
     if (due(RUN_CHANGES_ON_REFUSAL, refusal == PL022_BAD_INPUT)) {
         output[0] ^= 1;

@@ -10,7 +10,7 @@ mkdir -p "$built"
 cc -std=c11 -Wall -Wextra -Wpedantic -Wconversion -Wshadow -Werror -g -O1 -Iinclude \
     -c -o "$built/faults.o" fuzz/faults.c
 fuzz/build.sh "$built/with-faults" "$built/faults.o" \
-    -Wl,--wrap=pl022_reset,--wrap=pl022_read,--wrap=pl022_write \
+    -Wl,--wrap=pl022_reset,--wrap=pl022_reset_edition,--wrap=pl022_read,--wrap=pl022_write \
     -Wl,--wrap=pl022_run,--wrap=pl022_run_to_idle,--wrap=pl022_pair_run \
     -Wl,--wrap=pl022_write_text,--wrap=pl022_read_text
 
@@ -26,10 +26,16 @@ while read -r fault; do
         notice=$(grep -m 1 -e FAILED -e ERROR "$built/faults.err" || echo "MISSED, other end")
         case $notice in MISSED*) missed=$((missed + 1)) ;; esac
     fi
-    printf '%2d %-45s %s\n' "$number" "$fault" "$notice"
+    printf '%2d %-48s %s\n' "$number" "$fault" "$notice"
 done <<'END'
 reset leaves a byte as it was
 reset takes a record of 127 bytes
+reset leaves edition 2 as it was
+reset edition answers 20 where 10 is due
+reset edition takes edition 3
+reset edition cuts the edition to 8 bits
+reset edition gives edition 1 for 2
+reset edition changes the record though refused
 read gives a word with a refusal
 read of RIS changes the record
 read looks at the byte behind the record
@@ -38,11 +44,16 @@ read cuts the length to 32 bits
 read of SR gives another flag
 read of MIS gives another interrupt
 read bounds control bits by the word size
+read serves a record of edition 3
+read serves a frame with SSE clear in edition 1
 write changes the record though refused
 write loses a bit of IMSC
 write answers 9 for a sound record
 write answers 1 where 9 is due
 write leaves an unsound record
+write takes CPSR while a frame goes on
+write drops the frame of edition 2 with SSE
+write of SSE begins anew while a frame goes on
 run writes one byte behind the output
 run writes one byte before the output
 run looks at the byte behind the input
@@ -55,6 +66,10 @@ run leaves the last output byte
 run answers 12 where 11 is due
 run changes the output though refused
 run aborts
+run changes the edition
+run drops a frame with SSE clear in edition 2
+run takes a word with SSE clear
+run leaves a word behind a frame with SSE clear
 run to idle writes past its count
 run to idle gives a count with a refusal
 run to idle gives a count one too low

@@ -68,22 +68,22 @@ static uint32_t read_refusal(const struct request *request, const uint8_t *recor
     return refusal;
 }
 
-/* Refusals 5 to 7: those that follow from the device's state, read from the device. */
+/* Refusals 5 to 7: those that follow from the device's state, most of it read from the device. */
 static uint32_t refusal_by_state(const struct request *request, const uint8_t *record)
 {
     uint32_t value = request->value;
     uint32_t cr0 = word_of(record, PL022_CR0);
     uint32_t cr1 = word_of(record, PL022_CR1);
-    bool enabled = (cr1 & PL022_CR1_SSE) != 0;
+    bool active = record_active(record);
 
     switch (request->offset) {
     case PL022_CR0:
-        return enabled ? PL022_WHILE_ENABLED
+        return active ? PL022_WHILE_ENABLED
              : cr0_permitted(value) ? PL022_DONE : PL022_NOT_PERMITTED;
     case PL022_CPSR:
-        return enabled ? PL022_WHILE_ENABLED : PL022_DONE;
+        return active ? PL022_WHILE_ENABLED : PL022_DONE;
     case PL022_CR1:
-        if (enabled && ((value ^ cr1) & (PL022_CR1_MS | PL022_CR1_LBM)) != 0) {
+        if (active && ((value ^ cr1) & (PL022_CR1_MS | PL022_CR1_LBM)) != 0) {
             return PL022_WHILE_ENABLED;
         }
         return (value & PL022_CR1_SSE) != 0
@@ -119,6 +119,13 @@ static bool served(const struct request *request, enum role role)
     return !call_lends(request->call, role) || library_serves(request->lent[role].data);
 }
 
+/* Refusal 20. */
+static uint32_t refusal_by_edition(const struct request *request)
+{
+    bool known = request->value == PL022_EDITION_1 || request->value == PL022_EDITION_2;
+    return known || request->call == CALL_RESET ? PL022_DONE : PL022_NO_EDITION;
+}
+
 /* Refusals 11 and 12. */
 static uint32_t refusal_by_lines(const struct request *request)
 {
@@ -145,8 +152,11 @@ static uint64_t expected_refusal(const struct request *request, const struct out
     if (!has_length(request, ROLE_RECORD) || !has_length(request, ROLE_SECOND)) {
         return PL022_WRONG_LENGTH;
     }
+    if (call_resets(request->call)) {
+        return refusal_by_edition(request);
+    }
     uint32_t by_lines = call_runs_lines(request->call) ? refusal_by_lines(request) : PL022_DONE;
-    if (by_lines != PL022_DONE || request->call == CALL_RESET) {
+    if (by_lines != PL022_DONE) {
         return by_lines;
     }
     if (!served(request, ROLE_RECORD) || !served(request, ROLE_SECOND)) {
@@ -182,9 +192,22 @@ static void check_read(const struct request *request, const struct outcome *outc
                   "a register reads other than the record's fields say");
 }
 
+/* Clearing SSE keeps a frame of edition 2 and drops one of edition 1; setting it keeps all. */
+static void check_cr1(const struct request *request, const struct outcome *outcome)
+{
+    uint8_t expected[PL022_RECORD_LENGTH];
+    memcpy(expected, request->lent[ROLE_RECORD].data, sizeof expected);
+    record_write_cr1(expected, (uint8_t)request->value);
+    report_unless(memcmp(outcome->after[ROLE_RECORD].data, expected, sizeof expected) == 0,
+                  "a write of CR1 left another record");
+}
+
 static void check_write(const struct request *request, const struct outcome *outcome)
 {
     uint32_t offset = request->offset;
+    if (offset == PL022_CR1) {
+        check_cr1(request, outcome);
+    }
     if (offset == PL022_DR || offset == PL022_ICR) {
         return;
     }
@@ -207,6 +230,43 @@ static void check_history(const struct request *request, const struct outcome *o
     }
     uint8_t lines = cycles > 0 ? outcome->after[ROLE_OUTPUT].data[cycles - 1] : before[PL022_RECORD_LINES];
     report_unless(after[PL022_RECORD_LINES] == lines, "the record keeps other lines than it put out");
+}
+
+/* What a run, of one cycle at least, does to a device whose SSE is clear. */
+static void check_disabled(const uint8_t *before, const uint8_t *after)
+{
+    report_unless(after[PL022_RECORD_TX_COUNT] == before[PL022_RECORD_TX_COUNT]
+                  && memcmp(after + PL022_RECORD_TX_QUEUE, before + PL022_RECORD_TX_QUEUE,
+                            2 * PL022_QUEUE_WORDS) == 0,
+                  "a word was taken with SSE clear");
+    report_unless(after[PL022_RECORD_FRAME] != 0 || record_engine_clear(after),
+                  "with SSE clear and no frame the engine is not clear");
+    report_unless(record_stopped(before)
+                  || (after[PL022_RECORD_FRAME] == 0
+                      && after[PL022_RECORD_LINES] == record_idle_lines(before)),
+                  "a device that is not active does not rest");
+}
+
+/* What a done call, other than a reset, leaves of a record as it was. */
+static void check_kept(const struct request *request, const struct outcome *outcome,
+                       enum role role)
+{
+    const uint8_t *before = request->lent[role].data;
+    const uint8_t *after = outcome->after[role].data;
+    bool writes_cr1 = request->call == CALL_WRITE && request->offset == PL022_CR1;
+    bool runs = call_ran(request, outcome) > 0;
+
+    report_unless(after[PL022_RECORD_EDITION] == before[PL022_RECORD_EDITION],
+                  "a call that is no reset changed the edition");
+    report_unless(runs || writes_cr1
+                  || memcmp(after + PL022_RECORD_FRAME, before + PL022_RECORD_FRAME,
+                            PL022_RECORD_PINS - PL022_RECORD_FRAME) == 0,
+                  "the engine changed without a cycle");
+    report_unless(!runs || memcmp(after, before, PL022_RECORD_ROR) == 0,
+                  "a run changed a control register");
+    if (runs && !record_enabled(before)) {
+        check_disabled(before, after);
+    }
 }
 
 /* Of the buffers that are no records a call changes only what it says it wrote. */
@@ -247,10 +307,10 @@ static void check_run_to_idle(const struct request *request, const struct outcom
                   "a run to idle stopped too early");
 }
 
-static void check_reset(const struct outcome *outcome)
+static void check_reset(const struct outcome *outcome, uint32_t edition)
 {
     uint8_t reset[PL022_RECORD_LENGTH];
-    record_after_reset(reset);
+    record_after_reset(reset, edition);
     report_unless(memcmp(outcome->after[ROLE_RECORD].data, reset, sizeof reset) == 0,
                   "reset left another record");
     report_unless(word_of(reset, PL022_SR) == PL022_SR_RESET
@@ -258,17 +318,30 @@ static void check_reset(const struct outcome *outcome)
                   "SR or RIS reads otherwise after reset");
 }
 
-static void check_done(const struct request *request, const struct outcome *outcome)
+static void check_records(const struct request *request, const struct outcome *outcome)
 {
     for (unsigned role = ROLE_RECORD; role <= ROLE_SECOND; role++) {
-        report_unless(!call_lends(request->call, role)
-                      || library_serves(outcome->after[role].data),
+        if (!call_lends(request->call, role)) {
+            continue;
+        }
+        report_unless(library_serves(outcome->after[role].data),
                       "a done call left an unsound record");
+        if (!call_resets(request->call)) {
+            check_kept(request, outcome, role);
+        }
     }
+}
+
+static void check_done(const struct request *request, const struct outcome *outcome)
+{
+    check_records(request, outcome);
     check_rest(request, outcome);
     switch (request->call) {
     case CALL_RESET:
-        check_reset(outcome);
+        check_reset(outcome, PL022_EDITION_1);
+        break;
+    case CALL_RESET_EDITION:
+        check_reset(outcome, request->value);
         break;
     case CALL_READ:
         check_read(request, outcome);
@@ -319,8 +392,9 @@ void judge_wide_lengths(void)
     uint8_t record[PL022_RECORD_LENGTH];
     uint8_t input[PL022_RECORD_LENGTH] = {0};
 
-    record_after_reset(record);
+    record_after_reset(record, PL022_EDITION_1);
     report_unless(pl022_reset(bytes, wide) == PL022_WRONG_LENGTH
+                  && pl022_reset_edition(bytes, wide, PL022_EDITION_2) == PL022_WRONG_LENGTH
                   && pl022_read(bytes, wide, PL022_IMSC).refusal == PL022_WRONG_LENGTH
                   && pl022_write(bytes, wide, PL022_IMSC, 1) == PL022_WRONG_LENGTH
                   && pl022_pair_run(record, sizeof record, bytes, wide, 1) == PL022_WRONG_LENGTH

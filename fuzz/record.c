@@ -6,8 +6,11 @@
 #include "draw.h"
 
 /* Fields that a number bounds. CR0 and CPSR follow other rules. */
-enum limit { LIMIT_FIXED, LIMIT_RT_COUNT, LIMIT_SLOT, LIMIT_CYCLES, LIMIT_CAPTURED, LIMIT_ENABLED };
+enum limit {
+    LIMIT_FIXED, LIMIT_RT_COUNT, LIMIT_FRAME, LIMIT_SLOT, LIMIT_CYCLES, LIMIT_CAPTURED, LIMIT_ACTIVE
+};
 
+/* In this order a record is forged: edition and frame come before what they bound. */
 static const struct field {
     uint8_t at;
     uint8_t size;
@@ -15,14 +18,15 @@ static const struct field {
     uint16_t most;
 } fields[] = {
     {PL022_RECORD_CR1, 1, LIMIT_FIXED, 15},
+    {PL022_RECORD_EDITION, 1, LIMIT_FIXED, 1},
     {PL022_RECORD_IMSC, 1, LIMIT_FIXED, 15},
     {PL022_RECORD_DMACR, 1, LIMIT_FIXED, 3},
     {PL022_RECORD_ROR, 1, LIMIT_FIXED, 1},
     {PL022_RECORD_RT, 1, LIMIT_FIXED, 1},
     {PL022_RECORD_RT_COUNT, 4, LIMIT_RT_COUNT, 0},
-    {PL022_RECORD_FRAME, 1, LIMIT_ENABLED, 1},
-    {PL022_RECORD_SELECTED, 1, LIMIT_ENABLED, 1},
-    {PL022_RECORD_TI_MARK, 1, LIMIT_ENABLED, 1},
+    {PL022_RECORD_FRAME, 1, LIMIT_FRAME, 1},
+    {PL022_RECORD_SELECTED, 1, LIMIT_ACTIVE, 1},
+    {PL022_RECORD_TI_MARK, 1, LIMIT_ACTIVE, 1},
     {PL022_RECORD_CAPTURED, 1, LIMIT_CAPTURED, 0},
     {PL022_RECORD_SLOT, 1, LIMIT_SLOT, 0},
     {PL022_RECORD_HELD, 1, LIMIT_FIXED, 1},
@@ -35,10 +39,15 @@ static const struct field {
     {PL022_RECORD_LINES, 1, LIMIT_FIXED, PL022_OUTPUT_MASK},
     {PL022_RECORD_TX_COUNT, 1, LIMIT_FIXED, PL022_QUEUE_WORDS},
     {PL022_RECORD_RX_COUNT, 1, LIMIT_FIXED, PL022_QUEUE_WORDS},
-    {PL022_RECORD_SPARE_1, 2, LIMIT_FIXED, 0},
+    {PL022_RECORD_SPARE_1, 1, LIMIT_FIXED, 0},
 };
 
-enum { FIELDS = sizeof fields / sizeof fields[0], CONTROL_BITS = 8 };
+enum {
+    FIELDS = sizeof fields / sizeof fields[0],
+    CONTROL_BITS = 8,
+    ENGINE = PL022_RECORD_FRAME,
+    ENGINE_LENGTH = PL022_RECORD_PINS - PL022_RECORD_FRAME
+};
 
 static uint32_t get(const uint8_t *record, size_t at, size_t size)
 {
@@ -86,6 +95,26 @@ unsigned record_dss(const uint8_t *record)
     return dss_of(record_cr0(record));
 }
 
+bool record_enabled(const uint8_t *record)
+{
+    return (record[PL022_RECORD_CR1] & PL022_CR1_SSE) != 0;
+}
+
+static bool second_edition(const uint8_t *record)
+{
+    return record[PL022_RECORD_EDITION] == PL022_EDITION_2 - 1;
+}
+
+bool record_stopped(const uint8_t *record)
+{
+    return !record_enabled(record) && second_edition(record) && record[PL022_RECORD_FRAME] != 0;
+}
+
+bool record_active(const uint8_t *record)
+{
+    return record_enabled(record) || record_stopped(record);
+}
+
 bool cr0_permitted(uint32_t cr0)
 {
     return frf_of(cr0) < FORMATS && dss_of(cr0) >= LEAST_DSS;
@@ -118,7 +147,15 @@ static uint32_t record_h(const uint8_t *record)
     return record[PL022_RECORD_CPSR] / 2U * (1U + scr_of(record_cr0(record)));
 }
 
-/* The most that the field may hold beside the record's CR0, CR1 and CPSR. */
+/* Whether a frame may be in progress. */
+static bool may_have_frame(const uint8_t *record)
+{
+    return record_enabled(record)
+        || (second_edition(record) && cr0_permitted(record_cr0(record))
+            && record[PL022_RECORD_CPSR] != 0);
+}
+
+/* The most that the field may hold beside the registers, the edition and the frame. */
 static uint32_t most(const uint8_t *record, const struct field *field)
 {
     /* By FRF; 3 is reserved. */
@@ -128,12 +165,15 @@ static uint32_t most(const uint8_t *record, const struct field *field)
     if (field->limit == LIMIT_FIXED) {
         return field->most;
     }
-    if ((record[PL022_RECORD_CR1] & PL022_CR1_SSE) == 0) {
+    if (field->limit == LIMIT_FRAME) {
+        return may_have_frame(record) ? field->most : 0;
+    }
+    if (!record_active(record)) {
         return 0;
     }
     switch (field->limit) {
     case LIMIT_RT_COUNT:
-        return 64 * record_h(record) - 1;
+        return record_enabled(record) ? 64 * record_h(record) - 1 : 0;
     case LIMIT_SLOT:
         return 2 * bits + behind_bits[record_format(record)];
     case LIMIT_CYCLES:
@@ -156,11 +196,11 @@ static bool all_zero(const uint8_t *record, size_t from, size_t to)
 static bool registers_sound(const uint8_t *record)
 {
     uint32_t cr0 = record_cr0(record);
-    bool enabled = (record[PL022_RECORD_CR1] & PL022_CR1_SSE) != 0;
+    bool active = record_active(record);
 
-    return (cr0_permitted(cr0) || (cr0 == 0 && !enabled))
+    return (cr0_permitted(cr0) || (cr0 == 0 && !active))
         && record[PL022_RECORD_CPSR] % 2 == 0
-        && !(enabled && record[PL022_RECORD_CPSR] == 0);
+        && !(active && record[PL022_RECORD_CPSR] == 0);
 }
 
 bool record_sound(const uint8_t *record)
@@ -230,10 +270,47 @@ uint32_t record_word(const uint8_t *record, uint32_t offset)
     }
 }
 
-void record_after_reset(uint8_t *record)
+void record_after_reset(uint8_t *record, uint32_t edition)
 {
     memset(record, 0, PL022_RECORD_LENGTH);
     record[PL022_RECORD_LINES] = PL022_LINES_RESET;
+    record[PL022_RECORD_EDITION] = (uint8_t)(edition - 1);
+}
+
+void record_write_cr1(uint8_t *record, uint8_t value)
+{
+    if (record_enabled(record) && (value & PL022_CR1_SSE) == 0) {
+        set(record, PL022_RECORD_RT_COUNT, 4, 0);
+        if (!second_edition(record) || record[PL022_RECORD_FRAME] == 0) {
+            memset(record + ENGINE, 0, ENGINE_LENGTH);
+        }
+    }
+    record[PL022_RECORD_CR1] = value;
+}
+
+uint8_t record_idle_lines(const uint8_t *record)
+{
+    uint32_t cr0 = record_cr0(record);
+    uint32_t format = cr0 & PL022_CR0_FRF_MASK;
+
+    if ((record[PL022_RECORD_CR1] & PL022_CR1_MS) != 0 || format == PL022_CR0_FRF_MICROWIRE) {
+        return PL022_FSS | PL022_NSSPOE;
+    }
+    if (format == PL022_CR0_FRF_TI) {
+        return PL022_NSSPOE;
+    }
+    return (uint8_t)(PL022_FSS | PL022_NSSPOE | ((cr0 & PL022_CR0_SPO) != 0 ? PL022_CLK : 0));
+}
+
+bool record_engine_clear(const uint8_t *record)
+{
+    return all_zero(record, ENGINE, ENGINE + ENGINE_LENGTH);
+}
+
+void record_copy_queue(uint8_t *record, const uint8_t *from)
+{
+    record[PL022_RECORD_TX_COUNT] = from[PL022_RECORD_TX_COUNT];
+    memcpy(record + PL022_RECORD_TX_QUEUE, from + PL022_RECORD_TX_QUEUE, 2 * PL022_QUEUE_WORDS);
 }
 
 /* 0 to the limit, often one of the ends or next to the upper one. */
@@ -278,6 +355,15 @@ void record_forge(uint8_t *record)
     }
     draw_bytes(record + PL022_RECORD_TX_QUEUE, 2U * record[PL022_RECORD_TX_COUNT]);
     draw_bytes(record + PL022_RECORD_RX_QUEUE, 2U * record[PL022_RECORD_RX_COUNT]);
+}
+
+void record_stop(uint8_t *record)
+{
+    if (record_enabled(record)) {
+        record[PL022_RECORD_EDITION] = PL022_EDITION_2 - 1;
+        record[PL022_RECORD_FRAME] = 1;
+        record_write_cr1(record, record[PL022_RECORD_CR1] & (uint8_t)~PL022_CR1_SSE);
+    }
 }
 
 void record_overstep(uint8_t *record)

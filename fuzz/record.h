@@ -21,17 +21,39 @@ bool cr0_permitted(uint32_t cr0);
 /* A permitted CR0 with this SCR. */
 uint32_t draw_cr0(uint32_t scr);
 
-/* Rules S1 to S15 of docs/MODEL.md. */
+bool record_enabled(const uint8_t *record);
+
+/* SSE is clear, and in edition 2 a frame goes on. */
+bool record_stopped(const uint8_t *record);
+
+/* Enabled or stopped: CR0, CPSR, MS and LBM are fixed. */
+bool record_active(const uint8_t *record);
+
+/* The rules for sound records of docs/MODEL.md. */
 bool record_sound(const uint8_t *record);
 
 /* The word that a read of a sound record gives at an offset that can be read. */
 uint32_t record_word(const uint8_t *record, uint32_t offset);
 
-/* The record after reset. */
-void record_after_reset(uint8_t *record);
+/* The record after a reset to the edition. */
+void record_after_reset(uint8_t *record, uint32_t edition);
+
+/* What a write of CR1 that is done makes of a sound record. */
+void record_write_cr1(uint8_t *record, uint8_t value);
+
+/* The lines of a sound record's device while it is not active. */
+uint8_t record_idle_lines(const uint8_t *record);
+
+bool record_engine_clear(const uint8_t *record);
+
+/* Takes the words to send over from another record. */
+void record_copy_queue(uint8_t *record, const uint8_t *from);
 
 /* A sound record with fields at, near and far from their limits. */
 void record_forge(uint8_t *record);
+
+/* Makes a sound and enabled record one that is stopped in a frame; leaves any other. */
+void record_stop(uint8_t *record);
 
 /* Lifts one field to one above its limit, or breaks another rule, where that is possible. */
 void record_overstep(uint8_t *record);

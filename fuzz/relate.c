@@ -62,6 +62,29 @@ static void repeat(const struct request *request, const struct outcome *outcome)
           request, outcome, "the same call on a copy gave something else");
 }
 
+/* Whether a call on the lent records could go another way in the other edition. */
+static bool edition_matters(const struct request *request)
+{
+    const uint8_t *record = request->lent[ROLE_RECORD].data;
+    bool clears = request->call == CALL_WRITE && request->offset == PL022_CR1
+               && (request->value & PL022_CR1_SSE) == 0;
+
+    return record_stopped(record) || (clears && record[PL022_RECORD_FRAME] != 0);
+}
+
+/* The editions differ in a frame with SSE clear, and in the write that makes it one. */
+static void other_edition(const struct request *request, const struct outcome *outcome)
+{
+    request_copy(&part, request);
+    part.served_before = false;
+    part.lent[ROLE_RECORD].data[PL022_RECORD_EDITION] ^= 1;
+    judge(&part, &one);
+    one.after[ROLE_RECORD].data[PL022_RECORD_EDITION] ^= 1;
+    agree(one.refusal == outcome->refusal && one.result == outcome->result
+          && same_records(request, &one, outcome) && same_written(request, &one, outcome),
+          request, outcome, "the editions differ where they should not");
+}
+
 /* What follows the place that decided is not looked at. */
 static void extend_text(const struct request *request, const struct outcome *outcome)
 {
@@ -115,6 +138,50 @@ static void idle_as_run(const struct request *request, const struct outcome *out
     agree(same_records(&part, &one, outcome)
           && memcmp(one.after[ROLE_OUTPUT].data, outcome->after[ROLE_OUTPUT].data, cycles) == 0,
           request, outcome, "a run to idle is no run of its count");
+}
+
+/* The lent device, which is stopped in a frame, as one with SSE set and no word to send. */
+static void lend_enabled(const struct request *request, size_t cycles)
+{
+    static const uint8_t no_words[PL022_RECORD_LENGTH];
+    uint8_t *record = part.lent[ROLE_RECORD].data;
+
+    request_copy(&part, request);
+    part.call = CALL_RUN_TO_IDLE;
+    part.served_before = false;
+    record_write_cr1(record, record[PL022_RECORD_CR1] | PL022_CR1_SSE);
+    record_copy_queue(record, no_words);
+    part.lent[ROLE_INPUT].length = cycles;
+    part.lent[ROLE_OUTPUT].length = cycles;
+}
+
+/*
+ * A frame that goes on with SSE clear goes as with SSE set and no word to send: such a device,
+ * run until its frame is over, gives the same. Idle lines follow.
+ */
+static void follow_stopped(const struct request *request, const struct outcome *outcome)
+{
+    const uint8_t *before = request->lent[ROLE_RECORD].data;
+    const uint8_t *after = outcome->after[ROLE_RECORD].data;
+    const uint8_t *output = outcome->after[ROLE_OUTPUT].data;
+    size_t cycles = call_wrote(request, outcome, ROLE_OUTPUT);
+
+    lend_enabled(request, cycles);
+    judge(&part, &one);
+    uint8_t *expected = one.after[ROLE_RECORD].data;
+    size_t framed = (size_t)one.result;
+    bool same = memcmp(one.after[ROLE_OUTPUT].data, output, framed) == 0;
+    for (size_t i = framed; i < cycles; i++) {
+        same = same && output[i] == record_idle_lines(before);
+    }
+    record_write_cr1(expected, before[PL022_RECORD_CR1]);
+    record_copy_queue(expected, before);
+    if (framed < cycles) {
+        memcpy(expected + PL022_RECORD_PINS, after + PL022_RECORD_PINS,
+               PL022_RECORD_TX_COUNT - PL022_RECORD_PINS);
+    }
+    agree(same && memcmp(after, expected, PL022_RECORD_LENGTH) == 0, request, outcome,
+          "a frame with SSE clear goes otherwise than one with SSE set");
 }
 
 static void pair_part(const uint8_t *first, const uint8_t *second, uint64_t cycles,
@@ -187,6 +254,11 @@ void relate(const struct request *request, const struct outcome *outcome)
         extend_text(request, outcome);
     } else if (outcome->refusal != PL022_DONE || draw_one_in(3)) {
         repeat(request, outcome);
+    } else if (call_runs_lines(request->call) && record_stopped(request->lent[ROLE_RECORD].data)) {
+        follow_stopped(request, outcome);
+    } else if (call_lends(request->call, ROLE_RECORD) && !call_resets(request->call)
+               && !edition_matters(request) && draw_one_in(3)) {
+        other_edition(request, outcome);
     } else if (request->call == CALL_RUN_TO_IDLE && draw_one_in(2)) {
         idle_as_run(request, outcome);
     } else if (call_runs_lines(request->call)) {

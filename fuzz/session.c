@@ -94,9 +94,28 @@ static void submit(enum call call, unsigned which)
     if (pair) {
         keep_record(ROLE_SECOND, other, other_own);
     }
-    if (draw_one_in(6)) {
+    bool stopped = call_runs_lines(call) && record_stopped(request.lent[ROLE_RECORD].data);
+    if (stopped || draw_one_in(6)) {
         relate(&request, &outcome);
     }
+}
+
+/* Mostly one that is there. */
+static uint32_t draw_edition(void)
+{
+    static const uint32_t others[] = {0, 3, 4, 0x101, 0x102, 0x10001, 0x80000002, UINT32_MAX};
+    uint32_t kind = draw_below(sizeof others / sizeof others[0] + 2);
+
+    if (!draw_one_in(rarity)) {
+        return draw_one_in(3) ? PL022_EDITION_1 : PL022_EDITION_2;
+    }
+    return kind < sizeof others / sizeof others[0] ? others[kind] : (uint32_t)draw_bits();
+}
+
+static void reset(unsigned which)
+{
+    request.value = draw_edition();
+    submit(draw_one_in(4) ? CALL_RESET : CALL_RESET_EDITION, which);
 }
 
 static void write_register(unsigned which, uint32_t offset, uint32_t value)
@@ -319,6 +338,25 @@ static void step_disable(unsigned which)
     }
 }
 
+/* Perhaps in a frame, and perhaps set again; the role stays, or the write would be refused. */
+static void step_stop(unsigned which)
+{
+    uint32_t cr1 = devices[which].bytes[PL022_RECORD_CR1] & 0xF;
+
+    write_register(which, PL022_CR1, cr1 & ~PL022_CR1_SSE);
+    if (draw_one_in(2)) {
+        step_run(which);
+    }
+    if (draw_one_in(3)) {
+        uint32_t offset = draw_one_in(2) ? PL022_CR0 : PL022_CPSR;
+        write_register(which, offset, draw_below(0x100));
+    }
+    if (draw_one_in(2)) {
+        write_register(which, PL022_CR1, cr1 | PL022_CR1_SSE);
+        step_run(which);
+    }
+}
+
 static void step_noise(unsigned which)
 {
     request.offset = draw_offset();
@@ -327,7 +365,11 @@ static void step_noise(unsigned which)
     rarity = draw_one_in(2) ? OFTEN : SELDOM;
     draw_lines();
     request.cycles = draw_below(20);
-    submit(draw_one_in(16) ? CALL_RESET : (enum call)draw_between(CALL_READ, CALL_PAIR_RUN), which);
+    if (draw_one_in(16)) {
+        reset(which);
+    } else {
+        submit((enum call)draw_between(CALL_READ, CALL_PAIR_RUN), which);
+    }
 }
 
 /* A text is of no device. */
@@ -353,18 +395,25 @@ static void start(unsigned which)
     case 2:
         break;
     case 3:
-        record_after_reset(device->bytes);
+        record_after_reset(device->bytes, draw_between(PL022_EDITION_1, PL022_EDITION_2));
         record_damage(device->bytes);
         break;
     case 4: case 5:
         record_forge(device->bytes);
+        if (draw_one_in(4)) {
+            record_stop(device->bytes);
+        }
         record_overstep(device->bytes);
         break;
     case 6: case 7: case 8: case 9: case 10:
         record_forge(device->bytes);
         break;
+    case 11: case 12:
+        record_forge(device->bytes);
+        record_stop(device->bytes);
+        break;
     default:
-        submit(CALL_RESET, which);
+        reset(which);
         break;
     }
 }
@@ -377,7 +426,8 @@ void session(void)
     } steps[] = {
         {step_set_up, 5},  {step_set_up_pair, 1}, {step_load, 8},     {step_drain, 5},
         {step_run, 12},    {step_run_to_idle, 8}, {step_pair_run, 5}, {step_status, 8},
-        {step_disable, 2}, {step_noise, 20},      {start, 2},         {step_text, 6},
+        {step_disable, 2}, {step_stop, 4},        {step_noise, 20},   {start, 2},
+        {step_text, 6},
     };
     uint32_t total = 0;
     for (size_t i = 0; i < sizeof steps / sizeof steps[0]; i++) {
@@ -399,7 +449,7 @@ void session(void)
         steps[step].take(which);
         /* A record that is not served makes no progress, so it is soon given up. */
         if (!devices[which].served && draw_one_in(4)) {
-            submit(CALL_RESET, which);
+            reset(which);
         }
     }
 }

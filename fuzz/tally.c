@@ -13,6 +13,8 @@ static uint64_t answers[CALLS][REFUSALS];
 static uint64_t enabled_runs[FORMATS][ROLES_OF_DEVICE][SIZES];
 static uint64_t arrivals[FORMATS][ROLES_OF_DEVICE];
 static uint64_t takes[FORMATS][ROLES_OF_DEVICE];
+static uint64_t ends[FORMATS][ROLES_OF_DEVICE];   /* frames that ended with SSE clear */
+static uint64_t resumes[FORMATS][ROLES_OF_DEVICE]; /* frames in which SSE was set again */
 static uint64_t raw_seen[RAW_BITS];
 static uint64_t full_texts[CALLS];
 
@@ -23,12 +25,24 @@ static void tally_run(const struct request *request, const struct outcome *outco
     unsigned format = record_format(before);
     unsigned slave = (before[PL022_RECORD_CR1] & PL022_CR1_MS) != 0;
 
-    if ((before[PL022_RECORD_CR1] & PL022_CR1_SSE) == 0) {
+    if (!record_enabled(before)) {
+        ends[format][slave] += record_stopped(before) && !record_stopped(after);
         return;
     }
     enabled_runs[format][slave][record_dss(before)]++;
     arrivals[format][slave] += after[PL022_RECORD_RX_COUNT] > before[PL022_RECORD_RX_COUNT];
     takes[format][slave] += after[PL022_RECORD_TX_COUNT] < before[PL022_RECORD_TX_COUNT];
+}
+
+static void tally_write(const struct request *request)
+{
+    const uint8_t *record = request->lent[ROLE_RECORD].data;
+    unsigned slave = (record[PL022_RECORD_CR1] & PL022_CR1_MS) != 0;
+
+    if (request->offset == PL022_CR1 && (request->value & PL022_CR1_SSE) != 0
+        && record_stopped(record)) {
+        resumes[record_format(record)][slave]++;
+    }
 }
 
 static void digest_number(uint64_t number)
@@ -51,6 +65,8 @@ void tally_call(const struct request *request, const struct outcome *outcome)
     } else if (request->call == CALL_PAIR_RUN) {
         tally_run(request, outcome, ROLE_RECORD);
         tally_run(request, outcome, ROLE_SECOND);
+    } else if (request->call == CALL_WRITE) {
+        tally_write(request);
     } else if (request->call == CALL_READ && request->offset == PL022_RIS) {
         for (unsigned bit = 0; bit < RAW_BITS; bit++) {
             raw_seen[bit] += outcome->result >> bit & 1;
@@ -86,8 +102,11 @@ void tally_print(void)
     }
     for (unsigned format = 0; format < FORMATS; format++) {
         printf("; FRF %u words received %" PRIu64 " as master %" PRIu64 " as slave"
-               ", taken to be sent %" PRIu64 " and %" PRIu64,
-               format, arrivals[format][0], arrivals[format][1], takes[format][0], takes[format][1]);
+               ", taken to be sent %" PRIu64 " and %" PRIu64
+               ", frames ended with SSE clear %" PRIu64 " and %" PRIu64
+               ", resumed %" PRIu64 " and %" PRIu64,
+               format, arrivals[format][0], arrivals[format][1], takes[format][0], takes[format][1],
+               ends[format][0], ends[format][1], resumes[format][0], resumes[format][1]);
     }
     printf("; texts of %d cycles written %" PRIu64 ", read %" PRIu64, PL022_TEXT_CYCLES,
            full_texts[CALL_WRITE_TEXT], full_texts[CALL_READ_TEXT]);
@@ -106,6 +125,11 @@ static bool formats_complete(void)
             }
             if (arrivals[format][slave] == 0 || takes[format][slave] == 0) {
                 fprintf(stderr, "fuzz: never received or took a word in FRF %u MS %u\n",
+                        format, slave);
+                complete = false;
+            }
+            if (ends[format][slave] == 0 || resumes[format][slave] == 0) {
+                fprintf(stderr, "fuzz: never ended or resumed a stopped frame in FRF %u MS %u\n",
                         format, slave);
                 complete = false;
             }

@@ -4,7 +4,7 @@
  * A device is a record of PL022_RECORD_LENGTH bytes that you own. Lend it to every
  * call on the device; there is no other state, no allocation and no global, so any
  * number of devices may exist at the same time, and a copy of the bytes is a copy of
- * the device. Begin with pl022_reset.
+ * the device. Begin with pl022_reset or pl022_reset_edition.
  *
  *     docs/MODEL.md     what the device does
  *     docs/DRIVERS.md   for authors of drivers: which accesses, in which order
@@ -23,6 +23,11 @@
  * A set bit is a HIGH level. nSSPOE HIGH means that the device does not drive TXD.
  * pl022_write_text and pl022_read_text turn output bytes into text and back.
  *
+ * Editions. A device is of edition 1 or 2. Its reset chooses, and nothing else changes
+ * it. They differ where SSE is cleared while a frame is in progress: edition 1 drops the
+ * frame, edition 2 lets it go on to its end; with SSE clear neither takes a word. A device
+ * is active while SSE is 1, and in edition 2 also while a frame is in progress.
+ *
  * Refusals. Every call answers with a refusal number. 0 means that the call was
  * done. With any other number nothing happened: the record and all buffers are as
  * they were, and a word or count that is returned beside it is 0. When several
@@ -30,17 +35,18 @@
  *
  *     number                    given exactly when                       by
  *     10 PL022_WRONG_LENGTH     the record is not 128 bytes              all that take one
+ *     20 PL022_NO_EDITION       the edition is neither 1 nor 2           reset edition
  *     11 PL022_LINES_DIFFER     input_len and output_len differ          run, run to idle
  *     12 PL022_BAD_INPUT        an input byte is above 7                 run, run to idle
- *      9 PL022_UNSOUND          the record is not sound                  the same as 10 but reset
+ *      9 PL022_UNSOUND          the record is not sound                  the same as 10 but resets
  *      1 PL022_BAD_OFFSET       offset not a multiple of 4, or 0x1000
  *                               and up                                   read, write
  *      2 PL022_RESERVED         reserved offset, 0x28 to 0xFDC           read, write
  *      3 PL022_WRONG_ACCESS     write to a read-only register, read of
  *                               a write-only one                         read, write
  *      4 PL022_EXTRA_BITS       a bit is set that may not be written     write
- *      5 PL022_WHILE_ENABLED    CR0 or CPSR while SSE is 1; CR1 with
- *                               another MS or LBM while SSE is 1         write
+ *      5 PL022_WHILE_ENABLED    CR0 or CPSR while the device is active;
+ *                               CR1 with another MS or LBM then          write
  *      6 PL022_NOT_PERMITTED    CR0 with FRF 3 or DSS below 3; CR1 with
  *                               SSE while CR0 is such or CPSR is 0       write
  *      7 PL022_QUEUE_FULL       DR with eight words waiting: the word
@@ -100,7 +106,7 @@ enum pl022_refusal {
     PL022_RESERVED = 2,
     PL022_WRONG_ACCESS = 3,
     PL022_EXTRA_BITS = 4,
-    PL022_WHILE_ENABLED = 5,
+    PL022_WHILE_ENABLED = 5,            /* while the device is active */
     PL022_NOT_PERMITTED = 6,
     PL022_QUEUE_FULL = 7,
     PL022_QUEUE_EMPTY = 8,
@@ -114,7 +120,14 @@ enum pl022_refusal {
     PL022_TOO_SHORT = 16,
     PL022_BAD_CHARACTER = 17,
     PL022_EMPTY_LINE = 18,
-    PL022_NO_LINE_FEED = 19
+    PL022_NO_LINE_FEED = 19,
+    PL022_NO_EDITION = 20
+};
+
+/* Editions, as pl022_reset_edition takes them. */
+enum pl022_edition {
+    PL022_EDITION_1 = 1,
+    PL022_EDITION_2 = 2
 };
 
 /*
@@ -164,7 +177,7 @@ enum pl022_register {
 #define PL022_SR_TNF 0x02u              /* transmit queue not full */
 #define PL022_SR_RNE 0x04u              /* receive queue not empty */
 #define PL022_SR_RFF 0x08u              /* receive queue full */
-#define PL022_SR_BSY 0x10u              /* a frame is in progress, or a word waits */
+#define PL022_SR_BSY 0x10u              /* a frame is in progress, or TFE is 0 */
 
 /* Interrupts: in IMSC a one lets through; RIS is raw, MIS masked; in ICR a one clears ROR or RT. */
 #define PL022_INT_ROR 0x1u              /* overrun: a received word was dropped */
@@ -204,7 +217,7 @@ enum pl022_record_offset {
     PL022_RECORD_DMACR = 5,
     PL022_RECORD_ROR = 6,               /* raw interrupt, 0 or 1 */
     PL022_RECORD_RT = 7,                /* raw interrupt, 0 or 1 */
-    PL022_RECORD_RT_COUNT = 8,          /* 4 bytes: cycles towards RT */
+    PL022_RECORD_RT_COUNT = 8,          /* 4 bytes: cycles towards RT, 0 with SSE clear */
     PL022_RECORD_FRAME = 12,            /* 1: a frame is in progress */
     PL022_RECORD_SELECTED = 13,         /* slave, 1: selected */
     PL022_RECORD_TI_MARK = 14,          /* slave, 1: a TI start was seen */
@@ -220,7 +233,8 @@ enum pl022_record_offset {
     PL022_RECORD_LINES = 27,            /* output byte of the last cycle run */
     PL022_RECORD_TX_COUNT = 28,         /* words to send */
     PL022_RECORD_RX_COUNT = 29,         /* words received */
-    PL022_RECORD_SPARE_1 = 30,          /* 2 bytes, zero */
+    PL022_RECORD_EDITION = 30,          /* edition, less 1 */
+    PL022_RECORD_SPARE_1 = 31,          /* zero */
     PL022_RECORD_TX_QUEUE = 32,         /* 16 bytes: PL022_QUEUE_WORDS places, oldest word first */
     PL022_RECORD_RX_QUEUE = 48,         /* 16 bytes, the same */
     PL022_RECORD_SPARE_2 = 64           /* 64 bytes, zero */
@@ -252,7 +266,7 @@ struct pl022_text {
 };
 
 /*
- * pl022_reset: the record becomes that of a device as after reset.
+ * pl022_reset: the record becomes that of a device of edition 1 as after reset.
  *
  * All registers are zero and both queues empty, hence SR reads PL022_SR_RESET and RIS
  * PL022_RIS_RESET. The pins count as LOW, and the lines are PL022_LINES_RESET.
@@ -263,6 +277,19 @@ struct pl022_text {
  * Requires    a valid pointer to record_len bytes.
  */
 uint32_t pl022_reset(uint8_t *record, size_t record_len);
+
+/*
+ * pl022_reset_edition: as pl022_reset, for a device of the given edition.
+ *
+ * edition is PL022_EDITION_1 or PL022_EDITION_2; with the first the call is pl022_reset.
+ * No register shows the edition. PL022_RECORD_EDITION does; all other bytes of the record
+ * are the same for both. A record that was kept from an older version is of edition 1.
+ *
+ * Returns     0, or 10, 20.
+ * Unchanged   the record, if refused. What it held before does not matter.
+ * Requires    a valid pointer to record_len bytes.
+ */
+uint32_t pl022_reset_edition(uint8_t *record, size_t record_len, uint32_t edition);
 
 /*
  * pl022_read: reads the register at an offset.
@@ -280,7 +307,9 @@ struct pl022_word pl022_read(uint8_t *record, size_t record_len, uint32_t offset
  * pl022_write: writes a value into the register at an offset.
  *
  * A write to DR puts a word behind those that wait to be sent. What a write to any
- * other register does, clearing SSE above all, is in docs/MODEL.md.
+ * other register does, clearing SSE above all, is in docs/MODEL.md. In edition 2 a frame
+ * may go on after SSE was cleared: the writes that are refused with 5 are done once it is
+ * over. BSY does not tell that while the transmit queue has a word.
  *
  * Returns     0, or 10, 9, 1, 2, 3, 4, 5, 6, 7.
  * Unchanged   the record, if refused.
@@ -308,8 +337,9 @@ uint32_t pl022_run(uint8_t *record, size_t record_len,
  * pl022_run_to_idle: runs cycles as pl022_run does, until the device is idle.
  *
  * It stops after the first cycle that ends with BSY 0, at once if BSY is 0 already,
- * and otherwise with the last input byte: docs/MODEL.md says when BSY falls. All input
- * bytes are checked before the first cycle, also those that the run would not reach.
+ * and otherwise with the last input byte: docs/MODEL.md says when BSY falls; with SSE clear
+ * and a word in the transmit queue it does not. All input bytes are checked before the
+ * first cycle, also those that the run would not reach.
  *
  * Returns     the number of cycles run with refusal 0; or 10, 11, 12, 9 with count 0.
  * Unchanged   the input, and the output bytes from output[count] on; record and output

@@ -4,6 +4,7 @@ use crate::command::{hex, numbers, Command};
 use crate::model::Model;
 use crate::record::LENGTH;
 use crate::session::{Outcome, Session, PREFILL, PREFILL_NUMBER};
+use crate::stopped::Stopped;
 use std::fmt;
 use std::fs::File;
 use std::io::{Seek, Write};
@@ -54,6 +55,8 @@ pub struct Counts {
     pub pair: u64,
     pub refused: u64,
     pub cycles: u64,
+    /// Of edition 2: frames that SSE was cleared in.
+    pub stopped: Stopped,
     pub write_text: Tally,
     pub read_text: Tally,
     /// Texts drawn by chance; each takes several calls.
@@ -73,7 +76,7 @@ impl Counts {
         let done = outcome.refusal == 0;
         self.refused += u64::from(!done);
         match command {
-            Command::Reset { .. } => self.reset += 1,
+            Command::Reset { .. } | Command::ResetEdition { .. } => self.reset += 1,
             Command::Read { .. } => self.read += 1,
             Command::Write { .. } => self.write += 1,
             Command::Run { input, .. } => {
@@ -144,13 +147,13 @@ impl<'m> Bench<'m> {
         }
     }
 
-    /// A new case: both devices reset, nothing to replay before it.
-    pub fn begin(&mut self, title: String) -> Step<()> {
+    /// A new case: both devices reset to their editions, nothing to replay before it.
+    pub fn begin(&mut self, title: String, editions: [u32; 2]) -> Step<()> {
         self.title = title;
         self.log.clear();
-        for device in 0..2 {
+        for (device, edition) in editions.into_iter().enumerate() {
             self.load(device, &[0; LENGTH]);
-            self.step(Command::Reset { device })?;
+            self.step(Command::ResetEdition { device, edition })?;
         }
         Ok(())
     }
@@ -182,6 +185,7 @@ impl<'m> Bench<'m> {
         let one = self.second.call(&command);
         let other = self.other.call(&command);
         self.counts.add(&command, &one);
+        self.counts.stopped.add(&before, &command, one.refusal);
         self.log.push(command);
         let found = self.compare(&one, &other).or_else(|| self.refused_unchanged(&before, &one));
         if let Some(what) = found {

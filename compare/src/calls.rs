@@ -1,13 +1,21 @@
 //! The calls on byte records; a refusal leaves record and buffers as they were.
 
-use crate::device::{refusal, Device, CLK, DATA, FSS, NSSPOE};
+use crate::device::{refusal, Device, Edition, CLK, DATA, FSS, NSSPOE};
 use crate::record::{decode, encode, LENGTH};
 
+/// To the first edition.
 pub fn reset(record: &mut [u8]) -> u32 {
+    reset_edition(record, 1)
+}
+
+pub fn reset_edition(record: &mut [u8], edition: u32) -> u32 {
     if record.len() != LENGTH {
         return refusal::RECORD_LENGTH;
     }
-    record.copy_from_slice(&encode(&Device::reset()));
+    let Some(edition) = Edition::numbered(edition) else {
+        return refusal::EDITION;
+    };
+    store(record, &Device { edition, ..Device::reset() });
     0
 }
 

@@ -7,6 +7,10 @@ pub enum Command {
     Reset {
         device: usize,
     },
+    ResetEdition {
+        device: usize,
+        edition: u32,
+    },
     Read {
         device: usize,
         offset: u32,
@@ -135,6 +139,9 @@ impl Command {
 fn parse_for(name: &str, device: usize, rest: &[&str]) -> Option<Command> {
     match (name, rest) {
         ("reset", []) => Some(Command::Reset { device }),
+        ("reset", [edition]) => {
+            Some(Command::ResetEdition { device, edition: parse_number(edition)? })
+        }
         ("dump", []) => Some(Command::Dump { device }),
         ("save", []) => Some(Command::Save { device }),
         ("load", [bytes]) => Some(Command::Load { device, bytes: parse_hex(bytes)? }),
@@ -188,6 +195,7 @@ impl fmt::Display for Command {
     fn fmt(&self, f: &mut fmt::Formatter) -> fmt::Result {
         match self {
             Command::Reset { device } => write!(f, "reset {device}"),
+            Command::ResetEdition { device, edition } => write!(f, "reset {device} {edition:x}"),
             Command::Read { device, offset } => write!(f, "r {device} {offset:x}"),
             Command::Write { device, offset, value } => {
                 write!(f, "w {device} {offset:x} {value:x}")

@@ -3,7 +3,7 @@
 use crate::calls::wired;
 use crate::command::Command;
 use crate::device::Device;
-use crate::record::decode;
+use crate::record::sound_device;
 use crate::text::write_text;
 
 /// Cycles that a device ran with MS 0.
@@ -36,7 +36,7 @@ impl Frames {
     }
 
     fn run(&mut self, device: usize, record: &[u8], input: &[u8], goes_on: fn(&Device) -> bool) {
-        let Some(mut state) = sound(record) else { return };
+        let Some(mut state) = sound_device(record) else { return };
         for pins in input {
             if !goes_on(&state) {
                 return;
@@ -46,7 +46,9 @@ impl Frames {
     }
 
     fn pair(&mut self, records: &[Vec<u8>; 2], cycles: u64) {
-        let (Some(mut one), Some(mut other)) = (sound(&records[0]), sound(&records[1])) else {
+        let (Some(mut one), Some(mut other)) =
+            (sound_device(&records[0]), sound_device(&records[1]))
+        else {
             return;
         };
         for _ in 0..cycles {
@@ -89,8 +91,4 @@ impl Frames {
 /// A run is refused with any other buffers.
 fn fits(input: &[u8], output_len: usize) -> bool {
     input.len() == output_len && input.iter().all(|pins| *pins <= 7)
-}
-
-fn sound(record: &[u8]) -> Option<Device> {
-    decode(record.try_into().ok()?)
 }

@@ -15,4 +15,5 @@ pub mod record;
 pub mod recording;
 pub mod script;
 pub mod session;
+pub mod stopped;
 pub mod text;

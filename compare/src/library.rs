@@ -31,6 +31,7 @@ mod linked {
 
     extern "C" {
         fn pl022_reset(record: *mut u8, record_len: usize) -> u32;
+        fn pl022_reset_edition(record: *mut u8, record_len: usize, edition: u32) -> u32;
         fn pl022_read(record: *mut u8, record_len: usize, offset: u32) -> Word;
         fn pl022_write(record: *mut u8, record_len: usize, offset: u32, value: u32) -> u32;
         fn pl022_run(
@@ -81,6 +82,10 @@ mod linked {
     impl Model for Library {
         fn reset(&self, record: &mut [u8]) -> u32 {
             unsafe { pl022_reset(record.as_mut_ptr(), record.len()) }
+        }
+
+        fn reset_edition(&self, record: &mut [u8], edition: u32) -> u32 {
+            unsafe { pl022_reset_edition(record.as_mut_ptr(), record.len(), edition) }
         }
 
         fn read(&self, record: &mut [u8], offset: u32) -> (u32, u32) {

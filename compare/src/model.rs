@@ -4,6 +4,7 @@ use crate::{calls, text};
 
 pub trait Model {
     fn reset(&self, record: &mut [u8]) -> u32;
+    fn reset_edition(&self, record: &mut [u8], edition: u32) -> u32;
     fn read(&self, record: &mut [u8], offset: u32) -> (u32, u32);
     fn write(&self, record: &mut [u8], offset: u32, value: u32) -> u32;
     fn run(&self, record: &mut [u8], input: &[u8], output: &mut [u8]) -> u32;
@@ -19,6 +20,10 @@ pub struct Second;
 impl Model for Second {
     fn reset(&self, record: &mut [u8]) -> u32 {
         calls::reset(record)
+    }
+
+    fn reset_edition(&self, record: &mut [u8], edition: u32) -> u32 {
+        calls::reset_edition(record, edition)
     }
 
     fn read(&self, record: &mut [u8], offset: u32) -> (u32, u32) {

@@ -1,6 +1,6 @@
 //! The 128-byte device record: one encoding for each state, and soundness.
 
-use crate::device::{permitted, Device, Queue, PLACES};
+use crate::device::{permitted, Device, Edition, Queue, PLACES};
 
 pub const LENGTH: usize = 128;
 
@@ -27,6 +27,7 @@ pub mod at {
     pub const LINES: usize = 27;
     pub const TX_COUNT: usize = 28;
     pub const RX_COUNT: usize = 29;
+    pub const EDITION: usize = 30;
     pub const TX: usize = 32;
     pub const RX: usize = 48;
 }
@@ -76,6 +77,7 @@ pub fn encode(device: &Device) -> [u8; LENGTH] {
     bytes[at::LINES] = device.lines;
     bytes[at::TX_COUNT] = device.tx.len() as u8;
     bytes[at::RX_COUNT] = device.rx.len() as u8;
+    bytes[at::EDITION] = u8::from(device.edition == Edition::Second);
     put_queue(&mut bytes, at::TX, &device.tx);
     put_queue(&mut bytes, at::RX, &device.rx);
     bytes
@@ -84,7 +86,7 @@ pub fn encode(device: &Device) -> [u8; LENGTH] {
 /// The state that these bytes encode, if it is a sound one.
 pub fn decode(bytes: &[u8; LENGTH]) -> Option<Device> {
     let device = fields(bytes)?;
-    // Flags of 2, used spare bytes and filled unused places come back different.
+    // Flags of 2, other editions, used spare bytes and filled unused places come back different.
     if encode(&device) == *bytes && sound(&device) {
         Some(device)
     } else {
@@ -92,9 +94,15 @@ pub fn decode(bytes: &[u8; LENGTH]) -> Option<Device> {
     }
 }
 
+/// The same for bytes of any length.
+pub fn sound_device(bytes: &[u8]) -> Option<Device> {
+    decode(bytes.try_into().ok()?)
+}
+
 fn fields(bytes: &[u8; LENGTH]) -> Option<Device> {
     let count = &bytes[at::RT_COUNT..at::RT_COUNT + 4];
     Some(Device {
+        edition: if bytes[at::EDITION] == 0 { Edition::First } else { Edition::Second },
         cr0: get(bytes, at::CR0),
         cr1: bytes[at::CR1],
         cpsr: bytes[at::CPSR],
@@ -127,23 +135,30 @@ fn sound(device: &Device) -> bool {
         && device.imsc <= 15
         && device.dmacr <= 3;
     let levels = device.pins.iter().all(|pins| *pins <= 7) && device.lines <= 15;
-    let engine = if device.enabled() { sound_enabled(device) } else { sound_disabled(device) };
-    settings && levels && engine
+    let engine = if device.active() { sound_active(device) } else { sound_at_rest(device) };
+    settings && levels && engine && sound_count(device)
 }
 
-fn sound_enabled(device: &Device) -> bool {
+/// The RT count goes by SSE itself, also in a frame that ends without it.
+fn sound_count(device: &Device) -> bool {
+    if device.enabled() {
+        device.rt_count < device.timeout()
+    } else {
+        device.rt_count == 0
+    }
+}
+
+fn sound_active(device: &Device) -> bool {
     permitted(device.cr0)
         && device.cpsr != 0
-        && device.rt_count < device.timeout()
         && device.slot <= device.last_slot()
         && u32::from(device.gone) < device.slot_cycles()
         && device.captured <= device.incoming_bits()
 }
 
-fn sound_disabled(device: &Device) -> bool {
+fn sound_at_rest(device: &Device) -> bool {
     !(device.frame || device.selected || device.mark)
         && device.slot == 0
         && device.gone == 0
         && device.captured == 0
-        && device.rt_count == 0
 }

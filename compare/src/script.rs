@@ -2,7 +2,7 @@
 
 use crate::command::{digits, hex, is_short, numbers, Command};
 use crate::device::Device;
-use crate::record::{at, decode};
+use crate::record::{at, sound_device};
 use crate::session::{Outcome, Session};
 
 /// The answer to one line; None for blank lines and comments.
@@ -78,8 +78,7 @@ fn show_words(words: &[u16]) -> String {
 }
 
 fn show_dump(record: &[u8]) -> String {
-    let device = record.try_into().ok().and_then(decode);
-    device.map_or("unsound".to_string(), |device| show_device(&device))
+    sound_device(record).map_or("unsound".to_string(), |device| show_device(&device))
 }
 
 fn show_device(device: &Device) -> String {

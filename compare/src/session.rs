@@ -97,6 +97,9 @@ impl<'m> Session<'m> {
             Command::Reset { device } => {
                 self.access(*device, |model, record| (model.reset(record), 0))
             }
+            Command::ResetEdition { device, edition } => {
+                self.access(*device, |model, record| (model.reset_edition(record, *edition), 0))
+            }
             Command::Read { device, offset } => {
                 self.access(*device, |model, record| model.read(record, *offset))
             }

@@ -1,8 +1,9 @@
 //! The harness itself: it agrees with itself and finds faults.
 
 use compare::bench::Bench;
-use compare::cases::{bits, random_text, run, run_texts, text, Plan};
-use compare::fault::{Faulty, BIT_FAULTS, FAULTS, MICROWIRE_FAULTS, TEXT_FAULTS, TIMEOUT_FAULTS};
+use compare::cases::{bits, random_text, run, run_editions, run_texts, stops, text, Plan};
+use compare::fault::{Faulty, BIT_FAULTS, EDITION_FAULTS, FAULTS};
+use compare::fault::{MICROWIRE_FAULTS, TEXT_FAULTS, TIMEOUT_FAULTS};
 use compare::model::Second;
 use compare::random::Random;
 
@@ -45,6 +46,37 @@ fn single_bits_find_their_faults_alone() {
         let faulty = Faulty(number);
         let mut bench = Bench::new(&Second, &faulty);
         assert!(bits::one_by_one(&mut bench, &mut Random::new(0)).is_err(), "fault {number}");
+    }
+}
+
+/// The fixed stops find each fault, and random ones do in some rounds, whatever the seed.
+#[test]
+fn stops_find_their_faults_alone() {
+    for number in EDITION_FAULTS {
+        let faulty = Faulty(number);
+        let mut bench = Bench::new(&Second, &faulty);
+        assert!(stops::fixed(&mut bench, &mut Random::new(0)).is_err(), "fault {number}");
+        for seed in 1..=10 {
+            let plan = Plan { seed: seed << 32, rounds: 24, limit: None };
+            assert!(run_editions(&mut bench, &plan).is_err(), "fault {number}, seed {seed}");
+        }
+    }
+}
+
+/// Cycles with SSE clear in a frame, and all that can happen there, in each format and role,
+/// without the fixed stops.
+#[test]
+fn frames_go_on_with_sse_clear() {
+    let mut bench = Bench::new(&Second, &Second);
+    let plan = Plan { rounds: 50, ..PLAN };
+    assert!(run_editions(&mut bench, &plan).is_ok());
+    for (format, slave) in (0..3).flat_map(|format| [(format, false), (format, true)]) {
+        let tally = bench.counts.stopped.of(format, slave);
+        let what = format!("format {format}, slave {slave}: {tally:?}");
+        assert!(tally.cycles > 5000, "{what}");
+        assert!(tally.ended > 400 && tally.passed > 20, "{what}");
+        assert!(tally.resumed >= 5 && tally.resumed_with_words > 50, "{what}");
+        assert!(tally.refused > 100, "{what}");
     }
 }
 

@@ -252,6 +252,14 @@ fn a_script_as_text() {
     assert_eq!(text_of("around", &around), "AA\nBA541054\n32105410548\n");
 }
 
+/// SSE is clear in slot 8, which would take the second word.
+#[test]
+fn no_line_for_a_word_that_is_not_taken() {
+    let stopped = "run 0 00000000\nw 0 4 0\nrun 0 00\nw 0 4 2\nrun 0 00\n";
+    let commands = format!("reset 0 2\n{}{stopped}", two_words(0));
+    assert_eq!(text_of("stopped", &commands), "BA54105410\nBA\n");
+}
+
 #[test]
 fn the_first_master_of_a_script() {
     // Device 0 runs disabled at first; device 1 is the first that is enabled. Its last line

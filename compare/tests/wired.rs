@@ -1,6 +1,6 @@
-//! A master and a slave wired together bring every word across.
+//! A master and a slave wired together, of any editions, bring every word across.
 
-use compare::calls::{pair_run, read, reset, write};
+use compare::calls::{pair_run, read, reset_edition, write};
 use compare::random::Random;
 use compare::record::{at, LENGTH};
 
@@ -11,7 +11,7 @@ const CPSR: u32 = 0x10;
 
 fn set_up(random: &mut Random, cr0: u32, cpsr: u32, cr1: u32, words: &[u32]) -> [u8; LENGTH] {
     let mut record = [0; LENGTH];
-    reset(&mut record);
+    reset_edition(&mut record, random.pick(&[1, 2]));
     // Words held from earlier, received in loopback.
     write(&mut record, CR0, 0x0F);
     write(&mut record, CPSR, 2);

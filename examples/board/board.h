@@ -55,9 +55,10 @@ const char *refusal_text(uint32_t refusal);
 const char *register_name(uint32_t offset);
 uint32_t check(const char *call, const char *device, const char *place,
                uint32_t refusal, uint32_t expected);
-void port_reset(struct port *port, const char *name);
+void port_reset(struct port *port, const char *name, uint32_t edition);
 uint32_t port_read(struct port *port, uint32_t offset);
 void port_write(struct port *port, uint32_t offset, uint32_t value);
+bool port_write_idle(struct port *port, uint32_t offset, uint32_t value);
 void port_disable(struct port *port);
 void port_setup(struct port *port, const struct settings *settings, uint32_t role);
 void port_enable(struct port *port);

@@ -12,7 +12,7 @@ const char *refusal_text(uint32_t refusal)
         [PL022_RESERVED] = "the offset is reserved",
         [PL022_WRONG_ACCESS] = "a read-only register was written or a write-only one read",
         [PL022_EXTRA_BITS] = "a bit is set that the register does not take",
-        [PL022_WHILE_ENABLED] = "CR0 or CPSR written, or MS or LBM changed, while SSE is 1",
+        [PL022_WHILE_ENABLED] = "CR0 or CPSR written, or MS or LBM changed, in an active device",
         [PL022_NOT_PERMITTED] = "format or word size not permitted, or SSE before CR0 and CPSR",
         [PL022_QUEUE_FULL] = "the transmit queue is full",
         [PL022_QUEUE_EMPTY] = "the receive queue is empty",
@@ -27,6 +27,7 @@ const char *refusal_text(uint32_t refusal)
         [PL022_BAD_CHARACTER] = "a character is no capital digit and no line feed",
         [PL022_EMPTY_LINE] = "a line has no cycle",
         [PL022_NO_LINE_FEED] = "the last line feed is missing",
+        [PL022_NO_EDITION] = "the edition is neither 1 nor 2",
     };
     return refusal < sizeof texts / sizeof texts[0] ? texts[refusal] : "unknown number";
 }
@@ -63,11 +64,11 @@ uint32_t check(const char *call, const char *device, const char *place,
     exit(EXIT_FAILURE);
 }
 
-void port_reset(struct port *port, const char *name)
+void port_reset(struct port *port, const char *name, uint32_t edition)
 {
     port->name = name;
-    check("pl022_reset", name, "all registers",
-          pl022_reset(port->record, sizeof port->record), PL022_DONE);
+    check("pl022_reset_edition", name, "all registers",
+          pl022_reset_edition(port->record, sizeof port->record, edition), PL022_DONE);
 }
 
 uint32_t port_read(struct port *port, uint32_t offset)
@@ -81,6 +82,17 @@ void port_write(struct port *port, uint32_t offset, uint32_t value)
 {
     check("pl022_write", port->name, register_name(offset),
           pl022_write(port->record, sizeof port->record, offset, value), PL022_DONE);
+}
+
+/*
+ * For CR0, CPSR and CR1 after SSE was cleared in mid-frame. False while the frame goes on, as it
+ * does in edition 2: to be tried again after some cycles. BSY tells less: words in the queue hold it.
+ */
+bool port_write_idle(struct port *port, uint32_t offset, uint32_t value)
+{
+    return check("pl022_write", port->name, register_name(offset),
+                 pl022_write(port->record, sizeof port->record, offset, value),
+                 PL022_WHILE_ENABLED) == PL022_DONE;
 }
 
 /* False if the transmit queue is full: the word was not taken and must be offered again. */
@@ -110,7 +122,7 @@ void port_disable(struct port *port)
 /* role is 0 for a master, PL022_CR1_MS for a slave. The port is left disabled. */
 void port_setup(struct port *port, const struct settings *settings, uint32_t role)
 {
-    port_disable(port);     /* CPSR, CR0 and MS are fixed while SSE is 1 */
+    port_disable(port);     /* CPSR, CR0 and MS are fixed while SSE is 1, or a frame goes on */
     port_write(port, PL022_CPSR, settings->cpsr);
     port_write(port, PL022_CR0,
                settings->scr << PL022_CR0_SCR_SHIFT | (settings->sph ? PL022_CR0_SPH : 0u) |

@@ -5,9 +5,15 @@
 #include <string.h>
 #include "board.h"
 
-enum call { CALL_RESET, CALL_READ, CALL_WRITE, CALL_RUN, CALL_RUN_TO_IDLE, CALL_PAIR_RUN };
-enum state { AFTER_RESET, ENABLED, QUEUE_FULL, DAMAGED };
+enum call {
+    CALL_RESET, CALL_RESET_EDITION, CALL_READ, CALL_WRITE, CALL_RUN, CALL_RUN_TO_IDLE, CALL_PAIR_RUN
+};
+enum state { AFTER_RESET, ENABLED, STOPPED, QUEUE_FULL, DAMAGED };
 enum { BUFFER = 4 };
+
+/* Slots of 6 cycles; a frame is over in the first cycle of slot 18. */
+static const struct settings settings = { PL022_CR0_FRF_MOTOROLA, 0, 0, 8, 12, 0, 0 };
+enum { SLOT_CYCLES = 6, FRAME_END_SLOT = 18 };
 
 /* Everything that is lent to a call, so that one comparison covers it. */
 struct lent {
@@ -19,7 +25,7 @@ struct attempt {
     uint32_t refusal;           /* expected */
     enum state state;
     enum call call;
-    uint32_t offset, value;     /* read and write */
+    uint32_t offset, value;     /* read and write; value is also an edition */
     size_t short_by;            /* bytes withheld: of the record, or of a run's output */
     const char *what;
 };
@@ -34,6 +40,10 @@ static const struct attempt attempts[] = {
     { PL022_WHILE_ENABLED, ENABLED,     CALL_WRITE, PL022_CPSR, 14, 0, "CPSR with SSE 1" },
     { PL022_WHILE_ENABLED, ENABLED,     CALL_WRITE, PL022_CR1,  PL022_CR1_MS, 0,
       "CR1: MS set and SSE cleared in one write" },
+    { PL022_WHILE_ENABLED, STOPPED,     CALL_WRITE, PL022_CPSR, 14, 0,
+      "CPSR with SSE 0, in a frame of edition 2" },
+    { PL022_WHILE_ENABLED, STOPPED,     CALL_WRITE, PL022_CR1,  PL022_CR1_MS, 0,
+      "MS with SSE 0, in a frame of edition 2" },
     { PL022_NOT_PERMITTED, AFTER_RESET, CALL_WRITE, PL022_CR0,  2, 0, "CR0 with 3 bits" },
     { PL022_NOT_PERMITTED, AFTER_RESET, CALL_WRITE, PL022_CR1,  PL022_CR1_SSE, 0,
       "SSE after reset" },
@@ -42,11 +52,14 @@ static const struct attempt attempts[] = {
     { PL022_UNSOUND,       DAMAGED,     CALL_READ,  PL022_SR,   0, 0, "read of SR, spare byte set" },
     { PL022_UNSOUND,       DAMAGED,     CALL_PAIR_RUN, 0,     0, 0, "pair run, spare byte set" },
     { PL022_WRONG_LENGTH,  AFTER_RESET, CALL_RESET, 0,        0, 1, "reset of 127 bytes" },
+    { PL022_WRONG_LENGTH,  AFTER_RESET, CALL_RESET_EDITION, 0, 3, 1,
+      "reset of 127 bytes to edition 3" },
     { PL022_WRONG_LENGTH,  AFTER_RESET, CALL_PAIR_RUN, 0,     0, 1, "pair run with 127 bytes" },
     { PL022_LINES_DIFFER,  AFTER_RESET, CALL_RUN,   0,        0, 1, "run, 4 bytes in, 3 out" },
     { PL022_BAD_INPUT,     AFTER_RESET, CALL_RUN,   0,        8, 0, "run, last input byte 8" },
     { PL022_BAD_INPUT,     QUEUE_FULL,  CALL_RUN_TO_IDLE, 0,  8, 0,
       "run to idle, last input byte 8" },
+    { PL022_NO_EDITION,    DAMAGED,     CALL_RESET_EDITION, 0, 3, 0, "reset to edition 3" },
 };
 
 /* What the calls on texts are lent. */
@@ -80,18 +93,38 @@ static const struct text_attempt text_attempts[] = {
       "read of a text, no last line feed" },
 };
 
+static void run_cycle(struct port *port)
+{
+    uint8_t input = 0, output;
+
+    check("pl022_run", port->name, "no register",
+          pl022_run(port->record, sizeof port->record, &input, 1, &output, 1), PL022_DONE);
+}
+
+/* A master of edition 2: one cycle of its first word has run, a second word is in the queue, SSE is 0. */
+static void stop_in_frame(struct port *port)
+{
+    port_reset(port, "device", PL022_EDITION_2);
+    port_setup(port, &settings, 0);
+    port_write(port, PL022_DR, 0xA5);
+    port_write(port, PL022_DR, 0x5A);
+    port_enable(port);
+    run_cycle(port);
+    port_disable(port);
+}
+
 static void prepare(struct lent *lent, const struct attempt *attempt)
 {
-    static const struct settings settings = { PL022_CR0_FRF_MOTOROLA, 0, 0, 8, 12, 0, 0 };
-
     memset(lent, 0, sizeof *lent);
     memset(lent->output, 0xEE, sizeof lent->output);
     lent->input[BUFFER - 1] = (uint8_t)attempt->value;
-    port_reset(&lent->port, "device");
-    port_reset(&lent->other, "other device");
+    port_reset(&lent->port, "device", PL022_EDITION_1);
+    port_reset(&lent->other, "other device", PL022_EDITION_1);
     if (attempt->state == ENABLED) {
         port_setup(&lent->port, &settings, 0);
         port_enable(&lent->port);
+    } else if (attempt->state == STOPPED) {
+        stop_in_frame(&lent->port);
     } else if (attempt->state == QUEUE_FULL) {
         for (uint32_t word = 0; word < PL022_QUEUE_WORDS; word++)
             port_write(&lent->port, PL022_DR, word);
@@ -111,6 +144,9 @@ static uint32_t perform(struct lent *lent, const struct attempt *attempt, uint64
     switch (attempt->call) {
     case CALL_RESET:
         return pl022_reset(record, PL022_RECORD_LENGTH - attempt->short_by);
+    case CALL_RESET_EDITION:
+        return pl022_reset_edition(record, PL022_RECORD_LENGTH - attempt->short_by,
+                                   attempt->value);
     case CALL_READ:
         word = pl022_read(record, PL022_RECORD_LENGTH, attempt->offset);
         *beside = word.word;
@@ -202,10 +238,9 @@ static void show_text(const struct text_attempt *attempt)
 /* The change that was refused with 5 above, in the order that is accepted. */
 static void show_right_order(void)
 {
-    static const struct settings settings = { PL022_CR0_FRF_MOTOROLA, 0, 0, 8, 12, 0, 0 };
     struct port port;
 
-    port_reset(&port, "device");
+    port_reset(&port, "device", PL022_EDITION_1);
     port_setup(&port, &settings, 0);
     port_enable(&port);
     port_disable(&port);
@@ -222,6 +257,27 @@ static void show_right_order(void)
     }
 }
 
+/* The same in edition 2, where a frame goes on: tried again until the frame is over. */
+static void show_frame_end(void)
+{
+    struct port port;
+    unsigned cycles = 0, expected = FRAME_END_SLOT * SLOT_CYCLES;
+
+    stop_in_frame(&port);
+    while (cycles < 2 * expected && !port_write_idle(&port, PL022_CPSR, 14)) {
+        run_cycle(&port);
+        cycles++;
+    }
+    bool busy = port_read(&port, PL022_SR) & PL022_SR_BSY;
+    printf("  after 5 in edition 2: CPSR 14 tried again after every cycle: done after %u; "
+           "BSY %u, as a word is in the queue\n", cycles, busy);
+    if (cycles != expected || !busy) {
+        fflush(stdout);
+        fprintf(stderr, "board: expected the frame's end after %u cycles, and BSY 1\n", expected);
+        exit(EXIT_FAILURE);
+    }
+}
+
 unsigned show_refusals(void)
 {
     unsigned count = sizeof attempts / sizeof attempts[0];
@@ -233,5 +289,6 @@ unsigned show_refusals(void)
     for (unsigned i = 0; i < text_count; i++)
         show_text(&text_attempts[i]);
     show_right_order();
+    show_frame_end();
     return count + text_count;
 }

@@ -83,7 +83,8 @@ enum answer_status answer(const struct command *command, struct bench *bench, FI
     bench_next(bench);
     switch (command->verb) {
     case VERB_RESET:
-        fprintf(out, "%" PRIu32 "\n", pl022_reset(record, PL022_RECORD_LENGTH));
+        fprintf(out, "%" PRIu32 "\n",
+                pl022_reset_edition(record, PL022_RECORD_LENGTH, command->edition));
         break;
     case VERB_READ: {
         struct pl022_word read = pl022_read(record, PL022_RECORD_LENGTH, command->offset);

@@ -22,16 +22,17 @@ struct quoted {
 static const struct form {
     const char *name;
     enum verb verb;
-    size_t words;
+    size_t least; /* words, the name included */
+    size_t most;
     const char *usage;
 } forms[] = {
-    {"reset", VERB_RESET, 2, "reset D"},
-    {"r", VERB_READ, 3, "r D OFFSET"},
-    {"w", VERB_WRITE, 4, "w D OFFSET VALUE"},
-    {"run", VERB_RUN, 3, "run D INPUTS"},
-    {"idle", VERB_IDLE, 3, "idle D INPUTS"},
-    {"pair", VERB_PAIR, 2, "pair N"},
-    {"dump", VERB_DUMP, 2, "dump D"},
+    {"reset", VERB_RESET, 2, 3, "reset D [EDITION]"},
+    {"r", VERB_READ, 3, 3, "r D OFFSET"},
+    {"w", VERB_WRITE, 4, 4, "w D OFFSET VALUE"},
+    {"run", VERB_RUN, 3, 3, "run D INPUTS"},
+    {"idle", VERB_IDLE, 3, 3, "idle D INPUTS"},
+    {"pair", VERB_PAIR, 2, 2, "pair N"},
+    {"dump", VERB_DUMP, 2, 2, "dump D"},
 };
 
 static bool is_blank(char byte)
@@ -197,6 +198,7 @@ static const struct form *find_form(const struct word *word)
     return NULL;
 }
 
+/* A word that was left out has no text. Any edition passes: refusing one is the library's part. */
 static bool parse_words(const struct word *words, struct command *command,
                         struct complaint *complaint)
 {
@@ -207,6 +209,9 @@ static bool parse_words(const struct word *words, struct command *command,
         return false;
     }
     switch (command->verb) {
+    case VERB_RESET:
+        return words[2].text == NULL
+            || parse_hex("edition", &words[2], &command->edition, complaint);
     case VERB_READ:
         return parse_hex("offset", &words[2], &command->offset, complaint);
     case VERB_WRITE:
@@ -235,10 +240,10 @@ enum parse_status command_parse(char *line, size_t length, struct command *comma
                  quote(&words[0]).text);
         return PARSE_BAD;
     }
-    if (count != form->words) {
+    if (count < form->least || count > form->most) {
         complain(complaint, "wrong number of words, %zu: expected %s", count, form->usage);
         return PARSE_BAD;
     }
-    *command = (struct command){.verb = form->verb};
+    *command = (struct command){.verb = form->verb, .edition = PL022_EDITION_1};
     return parse_words(words, command, complaint) ? PARSE_COMMAND : PARSE_BAD;
 }

@@ -10,6 +10,7 @@ enum verb { VERB_RESET, VERB_READ, VERB_WRITE, VERB_RUN, VERB_IDLE, VERB_PAIR, V
 struct command {
     enum verb verb;
     unsigned device;      /* 0 or 1; not for a pair */
+    uint32_t edition;     /* reset */
     uint32_t offset;      /* read, write */
     uint32_t value;       /* write */
     size_t cycles;        /* run, idle, pair */

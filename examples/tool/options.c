@@ -19,9 +19,9 @@ void options_usage(FILE *out)
           "  --text FILE  write the master's cycles to FILE as text, one frame a line\n"
           "  --help       print this\n"
           "  --           what follows is a file's name, even the word text\n"
-          "Commands: reset D, r D OFFSET, w D OFFSET VALUE, run D INPUTS, idle D INPUTS,\n"
-          "pair N, dump D. Statuses: 0 done, 1 a file failed or the recording is too long\n"
-          "for --text, 2 wrong usage, script or text.\n",
+          "Commands: reset D [EDITION], r D OFFSET, w D OFFSET VALUE, run D INPUTS,\n"
+          "idle D INPUTS, pair N, dump D. Statuses: 0 done, 1 a file failed or the recording\n"
+          "is too long for --text, 2 wrong usage, script or text.\n",
           out);
 }
 

@@ -139,7 +139,7 @@ expected_cycles() {
     }
     BEGIN { out[0] = out[1] = last[0] = last[1] = "a"; pin[0] = pin[1] = 0 }
     { getline answer <answers; split(answer, a, " ") }
-    $1 == "reset" { last[$2] = "a" }
+    $1 == "reset" && a[1] == 0 { last[$2] = "a" }
     $1 == "run" && a[1] == 0 { single($2, tolower($3), a[2]) }
     $1 == "idle" && a[1] == 0 { single($2, tolower($3), a[3]) }
     $1 == "pair" { pair(a[1], a[2]) }'
@@ -218,7 +218,7 @@ expected_digits() {
         if (master == "" && bit(d, 2)) master = d
     }
     { getline answer <answers; split(answer, a, " ") }
-    $1 == "reset" { cr1[$2] = 0 }
+    $1 == "reset" && a[1] == 0 { cr1[$2] = 0 }
     $1 == "w" && $3 ~ /^0*4$/ && a[1] == 0 {
         cr1[$2] = index("0123456789abcdef", tolower(substr($4, length($4)))) - 1
     }
@@ -377,6 +377,15 @@ check "wired: words read back" equal "$(sed -n '13,17p' "$dir/answers" | tr '\n'
     '0 7;0 96;0 f;0 c5;0 3a;'
 like_other wired "$scripts/wired.txt" "$dir/answers"
 
+# Edition 1 drops the word A in slot 4, edition 2 ends it in slot 10 and skips slot 11; both send 5 afterwards.
+run "$scripts/editions.txt"
+cp "$dir/out" "$dir/answers"
+check "editions: status" equal "$status" 0
+check "editions: answers" equal "$(tr '\n' ';' <"$dir/answers")" \
+    "0;0;0;0;0;0;0;0;0;0;0;0;04501 04501;0;0;0;5;aaaaaa 45010a;0;0 12;0 16;8 0;0 a;0;0;0014501454aa 0014501454aa;0 5;0 5;"
+pictures editions "$scripts/editions.txt" "$dir/answers"
+like_other editions "$scripts/editions.txt" "$dir/answers"
+
 # slave NAME DIGITS WORD: what a slave puts out, a cycle each, and what it received.
 slave() {
     run "$scripts/$1.txt"
@@ -433,6 +442,20 @@ answers_are "NUL in a comment" '# \000\nr 0 c\n' '0 3;'
 answers_are "no cycles" 'run 0 -\nidle 1 -\npair 0\n' '0 -;0 0 -;- -;'
 answers_are "refused recordings" 'run 0 0008\nidle 0 f\nrun 1 77\n' '12 -;12 0 -;0 aa;'
 answers_are "a refused write" 'w 0 0 2\nr 0 8\nw 0 c 0\n' '6;8 0;3;'
+answers_are "editions that are there" 'reset 0\nreset 0 1\nreset 1 2\nreset 1 00000000002\n' '0;0;0;0;'
+answers_are "editions that are not" \
+    'reset 0 0\nreset 1 3\nreset 0 10\nreset 0 101\nreset 0 00A\nreset 1 ffffffff\n' '20;20;20;20;20;20;'
+answers_are "a refused reset" 'w 0 10 4\nreset 0 3\nr 0 10\nreset 0\nr 0 10\n' '0;20;0 4;0;0 0;'
+
+# A word of four bits is stopped in slot 4; CPSR can be written at once in edition 1, after slot 10 in edition 2.
+stopped='w 0 10 2\nw 0 0 3\nw 0 8 a\nw 0 4 2\nrun 0 00000\nw 0 4 0\nw 0 10 2\nrun 0 00000\nr 0 c\nrun 0 0\nr 0 c\nw 0 10 4\n'
+answers_are "stopped in edition 1" "$stopped" '0;0;0;0;0 04501;0;0;0 aaaaa;0 3;0 a;0 3;0;'
+answers_are "stopped in edition 2" "reset 0 2\n$stopped" '0;0;0;0;0;0 04501;0;5;0 45010;0 17;0 a;0 7;0;'
+answers_are "stopped after reset to edition 1" "reset 0 2\nreset 0\n$stopped" \
+    '0;0;0;0;0;0;0 04501;0;0;0 aaaaa;0 3;0 a;0 3;0;'
+answers_are "stopped after a refused reset" "reset 0 2\nreset 0 3\n$stopped" \
+    '0;20;0;0;0;0;0 04501;0;5;0 45010;0 17;0 a;0 7;0;'
+answers_are "editions of two devices" "reset 1 2\n$stopped" '0;0;0;0;0;0 04501;0;0;0 aaaaa;0 3;0 a;0 3;0;'
 
 # The fields of a dump, beyond one byte and with both flags: loopback, overrun, time-out.
 answers_are "dump of a long wait" \
@@ -589,6 +612,7 @@ lines_are "text of p4" "$scripts/p4.txt" "BA541054;3210541054;"
 lines_are "text of p5" "$scripts/p5.txt" "4501450101450145""89898989898AA;"
 lines_are "text of two_sph0" "$scripts/two_sph0.txt" "$A_SPH0;$B_SPH0;"
 lines_are "text of two_sph1" "$scripts/two_sph1.txt" "054105410;105410544AA;"
+lines_are "text of editions" "$scripts/editions.txt" "04501AAAAAA;$B_SPH0;"
 lines_are "text of wired" "$scripts/wired.txt" \
     "AAAA;$(slots 6 05454101010541054);$(slots 6 10105454541054100AA);"
 for script in motorola ti microwire; do
@@ -656,6 +680,12 @@ text_is "reset in the middle" \
     "04501AA;$A_TI;"
 text_is "disabled in the middle" "${p1}w 0 8 5\nrun 0 00000\nw 0 4 0\nrun 0 00\nw 0 4 2\nrun 0 $(cycles 12)\n" \
     "04501AA;$B_SPH0;"
+text_is "disabled in the middle, edition 2" \
+    "reset 0 2\n${p1}w 0 8 5\nrun 0 00000\nw 0 4 0\nrun 0 $(cycles 8)\nw 0 4 2\nrun 0 $(cycles 12)\n" \
+    "0450145010AAA;$B_SPH0;"
+text_is "enabled again in the middle, edition 2" \
+    "reset 0 2\n${p1}w 0 8 5\nrun 0 00000\nw 0 4 0\nrun 0 000\nw 0 4 2\nrun 0 $(cycles 16)\n" \
+    "$A_SPH0;$B_SPH0;"
 text_is "no device, no cycles" 'r 0 c\npair 3\nw 0 8 1\nw 1 4 4\npair 2\n' ''
 
 # 4,096 cycles fit, and one more does not. Cycles of others than the master do not count.
@@ -924,8 +954,9 @@ bad 3 "unknown command 'resets'" '# a\n\nresets 0\n'
 bad 4 "unknown command '0'" '\r\n\r\n\r\n0 run 12\r\n'
 bad 1 "unknown command 'r???'" 'r\000\001\377 0\n'
 bad 1 "unknown command 'abcdefghijklmnopqrstuvwx...'" 'abcdefghijklmnopqrstuvwxyz\n'
-bad 1 'expected reset D' 'reset\n'
-bad 1 'expected reset D' 'reset 0 0\n'
+bad 1 'words, 1: expected reset D [EDITION]' 'reset\n'
+bad 1 'words, 4: expected reset D [EDITION]' 'reset 0 1 2\n'
+bad 1 'words, 5: expected reset D [EDITION]' 'reset 0 2 # comment\n'
 bad 1 'expected r D OFFSET' 'r 0\n'
 bad 1 'expected r D OFFSET' 'r 0 0 0\n'
 bad 2 'expected w D OFFSET VALUE' 'w 0 10 2\nw 0 0\n'
@@ -938,6 +969,12 @@ bad 1 'expected pair N' 'pair 0 1\n'
 bad 1 'expected dump D' 'dump\n'
 bad 1 'expected dump D' 'dump 0 # comment\n'
 bad 1 "device '2': expected 0 or 1" 'reset 2\n'
+bad 1 "device '2': expected 0 or 1" 'reset 2 0\n'
+bad 1 "edition 'two' is not hexadecimal" 'reset 0 two\n'
+bad 1 "edition '0x2' is not hexadecimal" 'reset 0 0x2\n'
+bad 1 "edition '-' is not hexadecimal" 'reset 0 -\n'
+bad 1 "edition '#' is not hexadecimal" 'reset 0 #\n'
+bad 1 "edition '100000002' is above 32 bits" 'reset 0 100000002\n'
 bad 1 "device 'x'" 'r x 0\n'
 bad 1 "device '-1'" 'w -1 0 0\n'
 bad 1 "device '00'" 'dump 00\n'
@@ -1190,13 +1227,24 @@ function set_up(d) {
 function command(d, kind) {
     d = random(2)
     kind = random(20)
-    if (kind < 8) return setting(d)
+    if (kind < 7) return setting(d)
+    if (kind == 7) return stop(d)
     if (kind < 11) return "r " d " " pick("0 4 8 8 8 c 10 14 18 1c 20 24 28 fe0 ffc 1000 6")
     if (kind < 14) return "run " d " " recording(random(90))
     if (kind == 14) return "idle " d " " recording(random(300))
     if (kind < 18) return "pair " random(200)
     if (kind == 18) return "dump " d
-    return random(4) ? "dump " d : "reset " d
+    return random(4) ? "dump " d : "reset " d edition()
+}
+# As a word of its own, or none; 0 and 3 are refused.
+function edition() { return random(3) ? " " pick("1 2 2 2 0 3") : "" }
+# A device that is stopped, mostly in a frame, and perhaps enabled again.
+function stop(d, on) {
+    on = pick("2 2 3 6 6 7")
+    return "reset " d edition() "\nw " d " 10 2\nw " d " 0 " pick(formats) \
+        "\nw " d " 8 " hex(random(65536)) "\nw " d " 8 5\nw " d " 4 " on "\nrun " d " " recording(4 + random(40)) \
+        "\nw " d " 4 " (on - 2) "\nrun " d " " recording(random(12)) "\nw " d " 0 " pick(formats) "\ndump " d \
+        (random(2) ? "\nw " d " 4 " on "\nrun " d " " recording(random(40)) : "") "\ndump " d
 }
 function mutated(line, at, kind) {
     kind = random(9)
@@ -1218,7 +1266,7 @@ BEGIN {
         name = sprintf("%s/%03d", dir, file)
         count = 10 + random(30)
         broken = random(4) ? random(4) : 0
-        print "reset 0\nreset 1\n" set_up(0) "\n" set_up(1) >(name ".valid")
+        print "reset 0" edition() "\nreset 1" edition() "\n" set_up(0) "\n" set_up(1) >(name ".valid")
         for (n = 0; n < count; n++) {
             line = command()
             print line >(name ".valid")

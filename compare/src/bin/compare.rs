@@ -148,6 +148,7 @@ fn report(outcome: Step<u64>, counts: &Counts, arguments: &Arguments) -> ExitCod
     let texts = counts.texts();
     match outcome {
         Ok(done) => {
+            println!("compare: {}", counts.stopped);
             println!("compare: {texts}");
             println!("compare: {done} cases, {counts}, no difference");
             ExitCode::from(u8::from(!is_enough(counts, arguments)))

@@ -2,7 +2,7 @@
 //! sound but odd.
 
 use super::damage::probe;
-use super::settings::{permitted_cr0, read, run, speed};
+use super::settings::{disable, permitted_cr0, read, run, slot_cycles, speed};
 use super::waves::noise;
 use crate::bench::{Bench, Step};
 use crate::command::Command;
@@ -23,9 +23,13 @@ pub fn near_the_limits(bench: &mut Bench, random: &mut Random) -> Step<()> {
 /// Engines whose fields do not fit each other, D95 to D105 and D110.
 pub fn odd(bench: &mut Bench, random: &mut Random) -> Step<()> {
     for _ in 0..150 {
-        let record = forge_odd(random);
+        let mut record = forge_odd(random);
+        stop_some(random, &mut record);
         bench.load(0, &record);
         bench.forget();
+        if random.percent(20) {
+            disable(bench, 0)?;
+        }
         let cycles = random.pick(&[1, 2, 3, 12, 40]);
         let input = noise(random, cycles);
         run(bench, 0, input)?;
@@ -59,6 +63,7 @@ pub fn captured_bits(bench: &mut Bench, random: &mut Random) -> Step<()> {
             put(&mut record, at::CR0, settings, 2);
             put(&mut record, at::CR1, cr1, 1);
             put(&mut record, at::SLOT, 0, 1);
+            stop_some(random, &mut record);
             for captured in 0..18 {
                 put(&mut record, at::CAPTURED, captured, 1);
                 bench.load(0, &record);
@@ -74,7 +79,8 @@ pub fn captured_bits(bench: &mut Bench, random: &mut Random) -> Step<()> {
 pub fn pair(bench: &mut Bench, random: &mut Random) -> Step<()> {
     for _ in 0..150 {
         for device in 0..2 {
-            let record = if random.percent(50) { forge_odd(random) } else { forge(random) };
+            let mut record = if random.percent(50) { forge_odd(random) } else { forge(random) };
+            stop_some(random, &mut record);
             bench.load(device, &record);
         }
         bench.forget();
@@ -125,10 +131,40 @@ fn forge(random: &mut Random) -> [u8; LENGTH] {
     put(&mut record, at::LINES, random.below(16) as u32, 1);
     put(&mut record, at::SENDING, random.word(), 2);
     put(&mut record, at::RECEIVING, random.word(), 2);
-    forge_engine(random, &mut record, cr1 & 2 != 0);
+    let edition = if random.percent(98) { random.below(2) as u32 } else { other_edition(random) };
+    put(&mut record, at::EDITION, edition, 1);
+    forge_engine(random, &mut record);
     forge_queue(random, &mut record, at::TX_COUNT, at::TX);
     forge_queue(random, &mut record, at::RX_COUNT, at::RX);
     record
+}
+
+/// No edition's byte.
+fn other_edition(random: &mut Random) -> u32 {
+    random.pick(&[2, 2, 3, 128, 254, 255])
+}
+
+/// Often the frame is one that ends with SSE clear; now and then not quite so.
+pub fn stop_some(random: &mut Random, record: &mut [u8]) {
+    if random.percent(55) {
+        return;
+    }
+    record[at::CR1] &= !2;
+    put(record, at::FRAME, 1, 1);
+    put(record, at::EDITION, 1, 1);
+    put(record, at::RT_COUNT, 0, 4);
+    match random.below(30) {
+        0 => put(record, at::EDITION, 0, 1),
+        1 => put(record, at::EDITION, other_edition(random), 1),
+        2 => put(record, at::FRAME, 0, 1),
+        3 => put(record, at::RT_COUNT, random.pick(&[1, 63, 256]), 4),
+        4 => put(record, at::CPSR, 0, 1),
+        5 => put(record, at::CR0, 0, 2),
+        6 => put(record, at::SLOT, sizes(record).1 + 1, 1),
+        7 => put(record, at::GONE, slot_cycles(record) as u32, 2),
+        8 => put(record, at::CAPTURED, most_captured(record) + 1, 1),
+        _ => {}
+    }
 }
 
 /// An enabled device with short slots, its counts where something is decided.
@@ -173,6 +209,9 @@ fn forge_microwire(random: &mut Random, dss: u32, slot: u32, flags: u32) -> [u8;
     }
     let captured = random.below(8) as u32;
     put(&mut record, at::CAPTURED, random.pick(&[0, 7, 8, captured]), 1);
+    if flags & 1 != 0 {
+        stop_some(random, &mut record);
+    }
     record
 }
 
@@ -195,12 +234,14 @@ pub fn sizes(record: &[u8]) -> (u32, u32) {
     (b, 2 * b + [3, 1, 20, 3][usize::from(record[at::CR0] >> 4 & 3)])
 }
 
-/// Frame, slot and counts; zero, or nearly so, in a disabled device.
-fn forge_engine(random: &mut Random, record: &mut [u8], enabled: bool) {
-    if !enabled && random.percent(90) {
+/// Frame, slot and counts. With SSE clear mostly zero; otherwise most are of a frame that
+/// ends, which is sound in edition 2.
+fn forge_engine(random: &mut Random, record: &mut [u8]) {
+    let enabled = record[at::CR1] & 2 != 0;
+    if !enabled && random.percent(if record[at::EDITION] == 1 { 40 } else { 90 }) {
         return;
     }
-    let h = u32::from(record[at::CPSR] / 2) * (1 + u32::from(record[at::CR0 + 1]));
+    let h = slot_cycles(record) as u32;
     let (b, last) = sizes(record);
     for place in [at::FRAME, at::SELECTED, at::MARK] {
         put(record, place, flag(random), 1);
@@ -211,6 +252,10 @@ fn forge_engine(random: &mut Random, record: &mut [u8], enabled: bool) {
     put(record, at::CAPTURED, up_to(random, most), 1);
     put(record, at::SLOT, up_to(random, last), 1);
     put(record, at::GONE, up_to(random, h.saturating_sub(1)), 2);
+    if !enabled && random.percent(80) {
+        put(record, at::FRAME, 1, 1);
+        put(record, at::RT_COUNT, 0, 4);
+    }
 }
 
 fn forge_queue(random: &mut Random, record: &mut [u8], count_at: usize, words_at: usize) {

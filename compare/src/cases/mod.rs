@@ -4,12 +4,14 @@ mod accesses;
 pub mod bits;
 mod buffers;
 mod damage;
+mod editions;
 mod engine;
 mod forged;
 mod pairs;
 pub mod random_text;
 mod settings;
 mod slow;
+pub mod stops;
 pub mod text;
 mod timeout;
 mod waves;
@@ -34,7 +36,7 @@ type Entry = (&'static str, Case, u64);
 /// In the first round only, for a case that draws nothing.
 const ONCE: u64 = u64::MAX;
 
-const CASES: [Entry; 22] = [
+const CASES: [Entry; 17] = [
     ("accesses", accesses::sequence, 1),
     ("offsets", accesses::every_offset, 16),
     ("master", engine::master, 1),
@@ -44,19 +46,29 @@ const CASES: [Entry; 22] = [
     ("buffers", buffers::wrong, 1),
     ("bit flips", damage::every_bit, 4),
     ("random bytes", damage::random_bytes, 4),
-    ("forged records", forged::near_the_limits, 1),
-    ("odd records", forged::odd, 1),
     ("slow", slow::large_slots, 8),
     ("pair", pairs::pair, 1),
     ("pair refusals", pairs::refusals, 4),
-    ("forged pair", forged::pair, 1),
     ("microwire slave", engine::microwire_slave, 1),
     ("microwire slots", forged::microwire_slots, 16),
     ("captured bits", forged::captured_bits, 16),
     ("late words", timeout::late_words, 1),
     ("late words in a pair", timeout::late_pair, 1),
+];
+
+/// Those that draw nothing; last, since they take long.
+const FIXED_CASES: [Entry; 2] =
+    [("single bits", bits::one_by_one, ONCE), ("fixed stops", stops::fixed, ONCE)];
+
+/// Those with many frames in which SSE is clear, reached and forged.
+const EDITION_CASES: [Entry; 7] = [
+    ("stops", editions::stops, 1),
+    ("stopped pair", editions::stopped_pair, 1),
+    ("resets", editions::resets, 1),
+    ("forged records", forged::near_the_limits, 1),
+    ("odd records", forged::odd, 1),
+    ("forged pair", forged::pair, 1),
     ("arrivals", timeout::arrivals, 1),
-    ("single bits", bits::one_by_one, ONCE),
 ];
 
 /// They need no device.
@@ -64,7 +76,12 @@ const TEXT_CASES: [Entry; 2] =
     [("fixed texts", text::fixed, ONCE), ("random texts", random_text::texts, 1)];
 
 pub fn run(bench: &mut Bench, plan: &Plan) -> Step<u64> {
-    run_cases(bench, plan, &[&CASES[..], &TEXT_CASES].concat())
+    run_cases(bench, plan, &[&EDITION_CASES[..], &CASES, &TEXT_CASES, &FIXED_CASES].concat())
+}
+
+/// The random cases that find most frames with SSE clear.
+pub fn run_editions(bench: &mut Bench, plan: &Plan) -> Step<u64> {
+    run_cases(bench, plan, &EDITION_CASES)
 }
 
 /// The cases of texts alone.
@@ -85,8 +102,10 @@ fn run_cases(bench: &mut Bench, plan: &Plan, cases: &[Entry]) -> Step<u64> {
                 return Ok(done);
             }
             let seed = plan.seed.wrapping_add(round * 64 + i as u64);
-            bench.begin(format!("case {name}, round {round}, seed {seed:x}"))?;
-            case(bench, &mut Random::new(seed))?;
+            let mut random = Random::new(seed);
+            let editions = [(); 2].map(|_| random.pick(&[1, 2]));
+            bench.begin(format!("case {name}, round {round}, seed {seed:x}"), editions)?;
+            case(bench, &mut random)?;
             done += 1;
         }
     }

@@ -37,7 +37,7 @@ pub fn pair(bench: &mut Bench, random: &mut Random) -> Step<()> {
 }
 
 /// A master and a slave with settings that match, either of them first.
-fn matched(bench: &mut Bench, random: &mut Random) -> Step<()> {
+pub fn matched(bench: &mut Bench, random: &mut Random) -> Step<()> {
     let master = random.size(2);
     let slave = 1 - master;
     let cr0 = set_up(bench, random, master, 0)? & 0xFF;

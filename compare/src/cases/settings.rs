@@ -5,6 +5,7 @@ use crate::command::Command;
 use crate::random::Random;
 use crate::record::at;
 use crate::session::Outcome;
+use crate::stopped::stopped;
 
 pub use crate::device::offset::{CPSR, CR0, CR1, DR, ICR, IMSC, MIS, RIS};
 
@@ -81,6 +82,25 @@ pub fn disable(bench: &mut Bench, device: usize) -> Step<()> {
     Ok(())
 }
 
+/// A frame of more cycles is not waited for.
+const LONGEST: usize = 4000;
+
+/// Clears SSE, and sees a frame of edition 2 to its end: then the settings can be written.
+pub fn stop(bench: &mut Bench, device: usize) -> Step<()> {
+    disable(bench, device)?;
+    let Some(frame) = stopped(bench.record(device)) else { return Ok(()) };
+    // No frame of a master has more slots.
+    let cycles = if frame.slave() { 8 } else { 56 * slot_cycles(bench.record(device)) };
+    if cycles > LONGEST {
+        return bench.step(Command::ResetEdition { device, edition: 2 }).map(drop);
+    }
+    // FSS HIGH and CLK falling: the end of any slave's frame.
+    let input = [3, 2].into_iter().cycle().take(cycles).collect();
+    run(bench, device, input)?;
+    let over = stopped(bench.record(device)).is_none();
+    bench.require(over, "the frame is over")
+}
+
 pub fn load_words(bench: &mut Bench, random: &mut Random, device: usize, count: u64) -> Step<()> {
     for _ in 0..count {
         let word = random.word();
@@ -91,7 +111,7 @@ pub fn load_words(bench: &mut Bench, random: &mut Random, device: usize, count: 
 
 /// Sets a device up and leaves it off; returns its CR0.
 pub fn set_up(bench: &mut Bench, random: &mut Random, device: usize, cr1: u32) -> Step<u32> {
-    disable(bench, device)?;
+    stop(bench, device)?;
     let (cpsr, scr) = speed(random);
     let cr0 = permitted_cr0(random, scr);
     write(bench, device, CR0, cr0)?;

@@ -1,6 +1,6 @@
 //! Large h, up to the largest.
 
-use super::settings::{self, disable, enabling, permitted_cr0, read, slot_cycles, write};
+use super::settings::{self, disable, enabling, permitted_cr0, read, slot_cycles, stop, write};
 use super::settings::{CPSR, CR0, CR1, DR};
 use super::waves::noise;
 use crate::bench::{Bench, Step};
@@ -19,19 +19,29 @@ pub fn large_slots(bench: &mut Bench, random: &mut Random) -> Step<()> {
         write(bench, 0, DR, random.word())?;
     }
     write(bench, 0, CR1, cr1)?;
-    let h = slot_cycles(bench.record(0));
     for _ in 0..8 {
-        let cycles = match random.below(4) {
-            0 => h,
-            1 => h - 1,
-            2 => 1 + random.size(h),
-            _ => LONGEST.min(random.size(8 * h)),
-        };
-        let input = noise(random, cycles);
-        settings::run(bench, 0, input)?;
+        run_about_a_slot(bench, random)?;
     }
     disable(bench, 0)?;
+    for _ in 0..3 {
+        run_about_a_slot(bench, random)?;
+    }
+    stop(bench, 0)?;
+    write(bench, 0, DR, random.word())?;
     long_timeout(bench, random)
+}
+
+fn run_about_a_slot(bench: &mut Bench, random: &mut Random) -> Step<()> {
+    let h = slot_cycles(bench.record(0));
+    let cycles = match random.below(4) {
+        0 => h,
+        1 => h - 1,
+        2 => 1 + random.size(h),
+        _ => LONGEST.min(random.size(8 * h)),
+    };
+    let input = noise(random, cycles);
+    settings::run(bench, 0, input)?;
+    Ok(())
 }
 
 /// A timeout of many cycles after a frame at the shortest slot.
@@ -41,7 +51,7 @@ fn long_timeout(bench: &mut Bench, random: &mut Random) -> Step<()> {
     write(bench, 0, CR1, 3)?;
     let input = noise(random, 200);
     settings::run(bench, 0, input)?;
-    disable(bench, 0)?;
+    stop(bench, 0)?;
     let scr = random.below(16) as u32;
     write(bench, 0, CR0, scr << 8 | 0x13)?;
     write(bench, 0, CPSR, random.pick(&[2, 100, 254]))?;

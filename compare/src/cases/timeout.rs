@@ -1,7 +1,7 @@
 //! The receive timeout: its limit, and words that arrive while RT is up or about to be.
 
 use super::accesses::gentle;
-use super::forged::{forge_odd, is_microwire, most_captured, put, sizes};
+use super::forged::{forge_odd, is_microwire, most_captured, put, sizes, stop_some};
 use super::pairs::pair_run;
 use super::settings::{enabling, idle, load_words, permitted_cr0, read, run, set_up, slot_cycles};
 use super::settings::{write, CPSR, CR0, CR1, DR, ICR, IMSC, MIS, RIS};
@@ -139,7 +139,7 @@ pub fn late_pair(bench: &mut Bench, random: &mut Random) -> Step<()> {
 /// Records in which the next cycle has the last bit of a word, D114. No run leads to most
 /// of them, since a frame holds the count at zero.
 pub fn arrivals(bench: &mut Bench, random: &mut Random) -> Step<()> {
-    for _ in 0..40 {
+    for _ in 0..75 {
         for device in 0..2 {
             let record = forge_arrival(random);
             bench.load(device, &record);
@@ -181,6 +181,7 @@ fn forge_arrival(random: &mut Random) -> [u8; LENGTH] {
         3 => record[at::PINS + 1] |= FSS,
         _ => {}
     }
+    stop_some(random, &mut record);
     record
 }
 

@@ -8,7 +8,7 @@ pub mod refusal {
     pub const RESERVED: u32 = 2;
     pub const DIRECTION: u32 = 3;
     pub const BITS: u32 = 4;
-    pub const ENABLED: u32 = 5;
+    pub const ACTIVE: u32 = 5;
     pub const SETTING: u32 = 6;
     pub const FULL: u32 = 7;
     pub const EMPTY: u32 = 8;
@@ -23,6 +23,7 @@ pub mod refusal {
     pub const BAD_CHARACTER: u32 = 17;
     pub const EMPTY_LINE: u32 = 18;
     pub const NO_LINE_FEED: u32 = 19;
+    pub const EDITION: u32 = 20;
 }
 
 pub mod offset {
@@ -128,8 +129,8 @@ impl Device {
     }
 
     fn write_cr0(&mut self, value: u16) -> Result<(), u32> {
-        if self.enabled() {
-            return Err(refusal::ENABLED);
+        if self.active() {
+            return Err(refusal::ACTIVE);
         }
         if !permitted(value) {
             return Err(refusal::SETTING);
@@ -139,8 +140,8 @@ impl Device {
     }
 
     fn write_cpsr(&mut self, value: u8) -> Result<(), u32> {
-        if self.enabled() {
-            return Err(refusal::ENABLED);
+        if self.active() {
+            return Err(refusal::ACTIVE);
         }
         self.cpsr = value & 0xFE;
         Ok(())
@@ -148,17 +149,19 @@ impl Device {
 
     fn write_cr1(&mut self, value: u8) -> Result<(), u32> {
         let was_enabled = self.enabled();
-        if was_enabled && (self.cr1 ^ value) & (MS | LBM) != 0 {
-            return Err(refusal::ENABLED);
+        if self.active() && (self.cr1 ^ value) & (MS | LBM) != 0 {
+            return Err(refusal::ACTIVE);
         }
         if value & SSE != 0 && (!permitted(self.cr0) || self.cpsr == 0) {
             return Err(refusal::SETTING);
         }
         self.cr1 = value;
         if was_enabled && !self.enabled() {
-            // All but the queues, flags and last levels is gone.
-            self.clear_engine();
             self.rt_count = 0;
+            if !self.active() {
+                // All but the queues, flags and last levels is gone.
+                self.clear_engine();
+            }
         }
         Ok(())
     }

@@ -5,14 +5,17 @@ use super::Device;
 impl Device {
     /// Takes the pin levels and gives the lines of this cycle.
     pub fn cycle(&mut self, pins: u8) -> u8 {
-        let lines = if !self.enabled() {
-            self.clear_engine();
+        let lines = if !self.active() {
             self.idle_lines()
         } else if self.slave() {
             self.slave_cycle()
         } else {
             self.master_cycle(pins)
         };
+        if !self.active() {
+            // SSE is clear. A frame that ended in this cycle has shown its lines.
+            self.clear_engine();
+        }
         // Pins are followed in every mode, since a slave enabled later looks back.
         self.pins = [pins, self.pins[0], self.pins[1]];
         self.lines = lines;

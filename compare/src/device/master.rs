@@ -22,13 +22,12 @@ impl Device {
             Format::Microwire => self.slot == 18 + 2 * b,
         };
         let in_frame = self.frame && self.gone == 0 && (self.slot == 0 || joins);
-        let waits = self.enabled() && !self.slave() && !self.tx.is_empty();
-        waits && (self.at_rest() || in_frame)
+        !self.slave() && self.word_waits() && (self.at_rest() || in_frame)
     }
 
     pub(super) fn master_cycle(&mut self, pins: u8) -> u8 {
         let rest = self.at_rest();
-        if rest && self.tx.is_empty() {
+        if rest && !self.word_waits() {
             return self.idle_lines();
         }
         // A slot without a frame only runs out.
@@ -58,7 +57,7 @@ impl Device {
         let slot = self.slot;
         if slot == 0 {
             self.begin_word();
-        } else if slot == 2 * b + 1 && self.sph() && !self.tx.is_empty() {
+        } else if slot == 2 * b + 1 && self.sph() && self.word_waits() {
             // The next word follows with FSS still LOW; this is its slot 1.
             self.begin_word();
             self.slot = 1;
@@ -85,7 +84,7 @@ impl Device {
         if slot % 2 == 0 {
             self.held = self.bit((slot - 2) / 2);
         }
-        if slot == 2 * b && !self.tx.is_empty() {
+        if slot == 2 * b && self.word_waits() {
             // Joined: the last bit stays on TXD, its capture is still to come.
             self.take_word();
             self.slot = 0;
@@ -94,7 +93,7 @@ impl Device {
 
     fn microwire_event(&mut self) {
         let b = self.bits();
-        if self.slot == 18 + 2 * b && !self.tx.is_empty() {
+        if self.slot == 18 + 2 * b && self.word_waits() {
             self.slot = 0;
         }
         let slot = self.slot;

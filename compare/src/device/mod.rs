@@ -33,8 +33,28 @@ pub enum Format {
     Microwire,
 }
 
+/// What becomes of a frame when SSE is cleared: it is cut, or it ends.
+#[derive(Clone, Copy, PartialEq, Eq, Debug)]
+pub enum Edition {
+    First,
+    Second,
+}
+
+impl Edition {
+    /// The edition of this number, if there is one.
+    pub fn numbered(number: u32) -> Option<Edition> {
+        match number {
+            1 => Some(Edition::First),
+            2 => Some(Edition::Second),
+            _ => None,
+        }
+    }
+}
+
 #[derive(Clone, PartialEq, Eq, Debug)]
 pub struct Device {
+    /// Chosen at reset, for good.
+    pub edition: Edition,
     pub cr0: u16,
     pub cr1: u8,
     pub cpsr: u8,
@@ -72,8 +92,10 @@ pub fn permitted(cr0: u16) -> bool {
 }
 
 impl Device {
+    /// Of the first edition.
     pub fn reset() -> Device {
         Device {
+            edition: Edition::First,
             cr0: 0,
             cr1: 0,
             cpsr: 0,
@@ -100,6 +122,11 @@ impl Device {
 
     pub fn enabled(&self) -> bool {
         self.cr1 & SSE != 0
+    }
+
+    /// The engine works: SSE is set, or a frame of the second edition is still to end.
+    pub fn active(&self) -> bool {
+        self.enabled() || self.edition == Edition::Second && self.frame
     }
 
     pub fn slave(&self) -> bool {
@@ -204,9 +231,15 @@ impl Device {
         self.sending >> (self.bits() - 1 - i) & 1 != 0
     }
 
+    /// A word can be taken; with SSE clear none is, and the queue counts as empty.
+    fn word_waits(&self) -> bool {
+        self.enabled() && !self.tx.is_empty()
+    }
+
     /// Takes a word to send, or zeros for want of one.
     fn take_word(&mut self) {
-        self.sending = self.tx.pop().unwrap_or(0);
+        let word = if self.word_waits() { self.tx.pop() } else { None };
+        self.sending = word.unwrap_or(0);
         self.frame = true;
     }
 

@@ -1,14 +1,15 @@
 //! The second program with one fault, to see that the harness finds it.
 
+mod edition;
 mod text;
 
 use crate::device::offset::{CR1, ICR, MIS, SR};
 use crate::device::{Device, Format, Queue, DATA, FSS};
 use crate::model::{Model, Second};
-use crate::record::{at, decode, encode, LENGTH};
+use crate::record::{at, encode, sound_device, LENGTH};
 use std::ops::RangeInclusive;
 
-pub const FAULTS: u32 = 62;
+pub const FAULTS: u32 = 107;
 
 /// Those of a Microwire slave.
 pub const MICROWIRE_FAULTS: RangeInclusive<u32> = 15..=18;
@@ -21,6 +22,9 @@ pub const BIT_FAULTS: RangeInclusive<u32> = 26..=32;
 
 /// Those of texts: up to 45 in writing, then in reading.
 pub const TEXT_FAULTS: RangeInclusive<u32> = 33..=61;
+
+/// Those of the two editions.
+pub const EDITION_FAULTS: RangeInclusive<u32> = 62..=106;
 
 /// Those that spoil single cycles of a run.
 fn spoils_cycles(number: u32) -> bool {
@@ -45,8 +49,7 @@ fn spoil_engine(number: u32, record: &mut [u8]) {
 
 /// The state of a device that is enabled; None for any other record.
 fn enabled_device(record: &[u8]) -> Option<Device> {
-    let device = decode(record.try_into().ok()?)?;
-    device.enabled().then_some(device)
+    sound_device(record).filter(Device::enabled)
 }
 
 /// Faults of a Microwire slave in one cycle, which led from the one state to the other.
@@ -216,10 +219,17 @@ pub struct Faulty(pub u32);
 
 impl Model for Faulty {
     fn reset(&self, record: &mut [u8]) -> u32 {
-        Second.reset(record)
+        edition::reset(self.0, record)
+    }
+
+    fn reset_edition(&self, record: &mut [u8], edition: u32) -> u32 {
+        edition::reset_edition(self.0, record, edition)
     }
 
     fn read(&self, record: &mut [u8], offset: u32) -> (u32, u32) {
+        if EDITION_FAULTS.contains(&self.0) {
+            return edition::read(self.0, record, offset);
+        }
         let (refusal, word) = Second.read(record, offset);
         match self.0 {
             0 if refusal == 8 => (8, 1),
@@ -230,6 +240,9 @@ impl Model for Faulty {
     }
 
     fn write(&self, record: &mut [u8], offset: u32, value: u32) -> u32 {
+        if EDITION_FAULTS.contains(&self.0) {
+            return edition::write(self.0, record, offset, value);
+        }
         let held = record.get(at::RX_COUNT).copied();
         let refusal = match self.0 {
             // The bit of ROR clears RT.
@@ -244,6 +257,9 @@ impl Model for Faulty {
     }
 
     fn run(&self, record: &mut [u8], input: &[u8], output: &mut [u8]) -> u32 {
+        if EDITION_FAULTS.contains(&self.0) {
+            return edition::run(self.0, record, input, output);
+        }
         let mut start = record.to_vec();
         let refusal = Second.run(record, input, output);
         match self.0 {
@@ -261,6 +277,9 @@ impl Model for Faulty {
     }
 
     fn run_to_idle(&self, record: &mut [u8], input: &[u8], output: &mut [u8]) -> (u64, u64) {
+        if EDITION_FAULTS.contains(&self.0) {
+            return edition::run_to_idle(self.0, record, input, output);
+        }
         if self.0 == 31 {
             return idle_off(record, input, output);
         }
@@ -277,6 +296,9 @@ impl Model for Faulty {
     }
 
     fn pair_run(&self, first: &mut [u8], second: &mut [u8], cycles: u64) -> u32 {
+        if EDITION_FAULTS.contains(&self.0) {
+            return edition::pair_run(self.0, first, second, cycles);
+        }
         if self.0 == 8 {
             return Second.pair_run(second, first, cycles.saturating_sub(1));
         }

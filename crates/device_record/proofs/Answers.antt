@@ -39,17 +39,17 @@ stored b b′ d m l e h = e ∙ rw (l, h)
 
 -- Reset ----------------------------------------------------------------------------------------------------------------
 
-reset-passes : (b : List ℕ) → resetRefusal b ≡ 0 → eqb (length b) 128 ≡ true
+reset-passes : (b : List ℕ) (edition : ℕ) → resetRefusal b edition ≡ 0 → eqb (length b) 128 ≡ true
 unfolding resetRefusal
-reset-passes b z = passes (eqb (length b) 128) 10 0 (omega arith) z .0
+reset-passes b edition z = passes (eqb (length b) 128) 10 (pick (eqb edition 1 || eqb edition 2) 0 20) (omega arith) z .0
 
-module _ (b : List ℕ) (n : ℕ) (e : n ≡ resetRefusal b) where
-  pub reset-done : (b′ : List ℕ) (d : DeviceModel) → n ≡ 0 → d ≡ resetDevice → b′ ≡ encode d b → ResetCall b n b′
+module _ (b : List ℕ) (edition n : ℕ) (e : n ≡ resetRefusal b edition) where
+  pub reset-done : (b′ : List ℕ) (d : DeviceModel) → n ≡ 0 → d ≡ resetDevice (eqb edition 2) → b′ ≡ encode d b → ResetCall b edition n b′
   reset-done b′ d t h k =
-      let z : resetRefusal b ≡ 0 = sym e ∙ t in
-      record { refusal = e; left = rw z (stored b b′ d resetDevice (reset-passes b z) k h) }
+      let z : resetRefusal b edition ≡ 0 = sym e ∙ t in
+      record { refusal = e; left = rw z (stored b b′ d (resetDevice (eqb edition 2)) (reset-passes b edition z) k h) }
 
-  pub reset-refused : (n ≡ 0 → ⊥) → ResetCall b n b
+  pub reset-refused : (n ≡ 0 → ⊥) → ResetCall b edition n b
   reset-refused f = record { refusal = e; left = rw (← e, ne-eqb n 0 f) }
 
 -- Accesses -------------------------------------------------------------------------------------------------------------

@@ -45,15 +45,15 @@ pub high-word : (n : ℕ) → high (n % 0x10000) ≡ high n
 high-word n = omega arith
 
 -- the words of a state, as its bytes
-pub state-law : (f : Fields) (e : Engine) (h : History) (l : Lines) (w₁ w₂ w₃ w₄ w₅ w₆ w₇ w₈ w₉ newest middle oldest lines : ℕ)
+pub state-law : (f : Fields) (e : Engine) (h : History) (l : Lines) (w₁ w₂ w₃ w₄ w₅ w₆ w₇ w₈ w₉ w₁₀ newest middle oldest lines : ℕ)
     → newest ≡ pinByte (h .newest) → middle ≡ pinByte (h .middle) → oldest ≡ pinByte (h .oldest) → lines ≡ byteOf l
-    → WordOf (f .control .cr1) (f .control .cpsr) w₁ → WordOf (f .masks .imsc) (f .masks .dmacr) w₂ → WordOf (boolByte (f .ror)) (boolByte (f .timeout .rt)) w₃
+    → WordOf (f .control .cr1 % 256) (f .control .cpsr) w₁ → WordOf (f .masks .imsc) (f .masks .dmacr) w₂ → WordOf (boolByte (f .ror)) (boolByte (f .timeout .rt)) w₃
     → WordOf (boolByte (e .frame)) (boolByte (e .selected)) w₄ → WordOf (boolByte (e .mark)) (e .shift .captured) w₅ → WordOf (e .slot .0 % 256) (boolByte (e .shift .level)) w₆
-    → WordOf newest middle w₇ → WordOf oldest lines w₈ → WordOf (f .waiting) (f .held) w₉
-    → wordBytes (f .control .cr0 ∷ w₁ ∷ w₂ ∷ w₃ ∷ f .timeout .count .0 % 0x10000 ∷ f .timeout .count .0 / 0x10000 ∷ w₄ ∷ w₅ ∷ w₆ ∷ e .elapsed .0 % 0x10000 ∷ e .shift .sending ∷ e .shift .receiving ∷ w₇ ∷ w₈ ∷ w₉ ∷ 0 ∷ []) ≡ stateBytes f e h l
+    → WordOf newest middle w₇ → WordOf oldest lines w₈ → WordOf (f .waiting) (f .held) w₉ → WordOf (boolByte (f .control .edition2)) 0 w₁₀
+    → wordBytes (f .control .cr0 ∷ w₁ ∷ w₂ ∷ w₃ ∷ f .timeout .count .0 % 0x10000 ∷ f .timeout .count .0 / 0x10000 ∷ w₄ ∷ w₅ ∷ w₆ ∷ e .elapsed .0 % 0x10000 ∷ e .shift .sending ∷ e .shift .receiving ∷ w₇ ∷ w₈ ∷ w₉ ∷ w₁₀ ∷ []) ≡ stateBytes f e h l
 unfolding wordBytes stateBytes registerBytes engineBytes levelBytes countBytes
-state-law f e h l w₁ w₂ w₃ w₄ w₅ w₆ w₇ w₈ w₉ newest middle oldest lines n m o j k₁ k₂ k₃ k₄ k₅ k₆ k₇ k₈ k₉ =
-    rw (k₁ .first, k₁ .second, k₂ .first, k₂ .second, k₃ .first, k₃ .second, k₄ .first, k₄ .second, k₅ .first, k₅ .second, k₆ .first, k₆ .second, k₇ .first, k₇ .second, k₈ .first, k₈ .second, k₉ .first, k₉ .second, n, m, o, j, low-word (f .timeout .count .0), high-word (f .timeout .count .0), low-word (e .elapsed .0), high-word (e .elapsed .0), low-fits w₁ (f .control .cr1) (k₁ .first), high-fits w₁ (f .control .cpsr) (k₁ .second), low-fits w₂ (f .masks .imsc) (k₂ .first), high-fits w₂ (f .masks .dmacr) (k₂ .second), high-fits w₅ (e .shift .captured) (k₅ .second))
+state-law f e h l w₁ w₂ w₃ w₄ w₅ w₆ w₇ w₈ w₉ w₁₀ newest middle oldest lines n m o j k₁ k₂ k₃ k₄ k₅ k₆ k₇ k₈ k₉ k₁₀ =
+    rw (k₁ .first, k₁ .second, k₂ .first, k₂ .second, k₃ .first, k₃ .second, k₄ .first, k₄ .second, k₅ .first, k₅ .second, k₆ .first, k₆ .second, k₇ .first, k₇ .second, k₈ .first, k₈ .second, k₉ .first, k₉ .second, k₁₀ .first, k₁₀ .second, n, m, o, j, low-word (f .timeout .count .0), high-word (f .timeout .count .0), low-word (e .elapsed .0), high-word (e .elapsed .0), high-fits w₁ (f .control .cpsr) (k₁ .second), low-fits w₂ (f .masks .imsc) (k₂ .first), high-fits w₂ (f .masks .dmacr) (k₂ .second), high-fits w₅ (e .shift .captured) (k₅ .second))
 
 -- `to` is `from` with the first i bytes of `part` from `at` on
 pub record Putting (from : List ℕ) (at : ℕ) (part to : List ℕ) (i : ℕ) : Type 0 where

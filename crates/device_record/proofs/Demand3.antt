@@ -143,10 +143,10 @@ demand3-records r pre mid s st four z z′ =
 -- The last sentence.
 pub last-sentence-records : LastSentenceRecords
 unfolding outputs
-last-sentence-records s b b′ o v o′ v′ sb sb′ e e′ ins ins′ w w′ same =
+last-sentence-records s m n b b′ o v o′ v′ sb sb′ e e′ ins ins′ w w′ same =
     let d = write-left b o v sb .is in
     let d′ = write-left b′ o′ v′ sb′ .is in
-    let tell = enabling-injective s (decode b) (decode b′) o v o′ v′ e e′ (map pinsOf ins) (map pinsOf ins′) in
+    let tell = enabling-injective s m n (decode b) (decode b′) o v o′ v′ e e′ (map pinsOf ins) (map pinsOf ins′) in
     let whole = subst (λ (x : DeviceModel). WholeLoad s x (map pinsOf ins)) d w in
     let whole′ = subst (λ (x : DeviceModel). WholeLoad s x (map pinsOf ins′)) d′ w′ in
     let bytes = sym (ap (λ (x : DeviceModel). outputs x ins) d) in

@@ -60,15 +60,15 @@ left-sound refusal d b g s = go (eqb refusal done)
     go true = good-encode d g
     go false = s
 
-reset-good : Good resetDevice
-reset-good = record { sound = sound-reset; fits = fits-reset }
+reset-good : (edition2 : Bool) → Good (resetDevice edition2)
+reset-good edition2 = record { sound = sound-reset edition2; fits = fits-reset edition2 }
 
 -- Reset makes a sound record of any 128 bytes.
-pub reset-makes-sound : (bytes : List ℕ) → resetRefusal bytes ≡ done → soundBytes (resetLeft bytes) ≡ true
-reset-makes-sound bytes e = rw e (good-encode resetDevice reset-good)
+pub reset-makes-sound : (bytes : List ℕ) (edition : ℕ) → resetRefusal bytes edition ≡ done → soundBytes (resetLeft bytes edition) ≡ true
+reset-makes-sound bytes edition e = rw e (good-encode (resetDevice (eqb edition 2)) (reset-good (eqb edition 2)))
 
-pub reset-keeps-sound : (bytes : List ℕ) → soundBytes bytes ≡ true → soundBytes (resetLeft bytes) ≡ true
-reset-keeps-sound bytes s = left-sound (resetRefusal bytes) resetDevice bytes reset-good s
+pub reset-keeps-sound : (bytes : List ℕ) (edition : ℕ) → soundBytes bytes ≡ true → soundBytes (resetLeft bytes edition) ≡ true
+reset-keeps-sound bytes edition s = left-sound (resetRefusal bytes edition) (resetDevice (eqb edition 2)) bytes (reset-good (eqb edition 2)) s
 
 pub read-keeps-sound : (bytes : List ℕ) (o : ℕ) → soundBytes bytes ≡ true → soundBytes (readLeft bytes o) ≡ true
 read-keeps-sound bytes o s =
@@ -113,8 +113,8 @@ module _ (one two : List ℕ) (n : ℕ) where
       go false s = rw (pair-refused one two (rw s)) t
 
 reached-sound : {bytes : List ℕ} → Reached bytes → soundBytes bytes ≡ true
-reached-sound (Reached.reset b e) = reset-makes-sound b e
-reached-sound (Reached.again b h) = reset-keeps-sound b (reached-sound h)
+reached-sound (Reached.reset b n e) = reset-makes-sound b n e
+reached-sound (Reached.again b n h) = reset-keeps-sound b n (reached-sound h)
 reached-sound (Reached.read b o h) = read-keeps-sound b o (reached-sound h)
 reached-sound (Reached.write b o v h) = write-keeps-sound b o v (reached-sound h)
 reached-sound (Reached.run stop b i o h) = run-keeps-sound stop b i o (reached-sound h)

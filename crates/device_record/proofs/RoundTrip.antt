@@ -153,7 +153,7 @@ module _ (m : Model) (e : Engine) (h : History) (l : Lines) where
   fields-back : FileFits m → fieldsAt parts ≡ fieldsOf m
   unfolding stateBytes registerBytes engineBytes levelBytes countBytes queueBytes wordBytes fieldsOf places fieldsAt wordAt longAt flagAt wordsAt
   fields-back k =
-      rw (word-back (m .control .cr0) (k .cr0), byte-back (m .control .cr1) (k .cr1), byte-back (m .control .cpsr) (k .cpsr), byte-back (m .masks .imsc) (k .imsc), byte-back (m .masks .dmacr) (k .dmacr), long-back (m .timeout .count .0) (k .count), flag-back (m .ror), flag-back (m .timeout .rt), places-back (m .tx) (k .tx), places-back (m .rx) (k .rx))
+      rw (word-back (m .control .cr0) (k .cr0), byte-back (m .control .cr1) (k .cr1), byte-back (m .control .cpsr) (k .cpsr), byte-back (m .masks .imsc) (k .imsc), byte-back (m .masks .dmacr) (k .dmacr), long-back (m .timeout .count .0) (k .count), flag-back (m .ror), flag-back (m .timeout .rt), flag-back (m .control .edition2), places-back (m .tx) (k .tx), places-back (m .rx) (k .rx))
 
   engine-back : EngineFit e → engineAt parts ≡ e
   unfolding stateBytes registerBytes engineBytes levelBytes countBytes engineAt wordAt flagAt

@@ -24,18 +24,32 @@ leftBy refusal d bytes = pick (eqb refusal done) (encoded d) bytes
 
 -- Reset ----------------------------------------------------------------------------------------------------------------
 
--- Refused only with 10, whatever the bytes held.
-unfoldable pub resetRefusal : List ℕ → ℕ
-resetRefusal bytes = pick (not (eqb (length bytes) recordLength)) wrongLength done
+-- the first edition
+abbrev pub firstEdition : ℕ
+firstEdition = 1
 
--- The record after a reset; a refused one leaves the bytes as they were.
-abbrev pub resetLeft : List ℕ → List ℕ
-resetLeft bytes = leftBy (resetRefusal bytes) resetDevice bytes
+-- the second edition
+abbrev pub secondEdition : ℕ
+secondEdition = 2
+
+-- no such edition
+abbrev pub noEdition : ℕ
+noEdition = 20
+
+-- Refused only with 10, then 20, whatever the bytes held.
+unfoldable pub resetRefusal : List ℕ → ℕ → ℕ
+resetRefusal bytes edition =
+    pick (not (eqb (length bytes) recordLength)) wrongLength
+    (pick (eqb edition firstEdition || eqb edition secondEdition) done noEdition)
+
+-- The record after a reset, of the edition that is asked for; a refused one leaves the bytes as they were.
+abbrev pub resetLeft : List ℕ → ℕ → List ℕ
+resetLeft bytes edition = leftBy (resetRefusal bytes edition) (resetDevice (eqb edition secondEdition)) bytes
 
 -- A reset: its refusal number, and the record after it.
-pub record ResetCall (bytes : List ℕ) (r : ℕ) (bytes′ : List ℕ) : Type 0 where
-  pub refusal : r ≡ resetRefusal bytes
-  pub left : bytes′ ≡ resetLeft bytes
+pub record ResetCall (bytes : List ℕ) (edition r : ℕ) (bytes′ : List ℕ) : Type 0 where
+  pub refusal : r ≡ resetRefusal bytes edition
+  pub left : bytes′ ≡ resetLeft bytes edition
 
 -- Accesses -------------------------------------------------------------------------------------------------------------
 
@@ -135,8 +149,8 @@ pub record PairCall (one two : List ℕ) (n r : ℕ) (one′ two′ : List ℕ) 
 
 -- A record reached from reset: a reset that is done made it, and then every call, done or refused, took it as the one before had left it; the partner of a pair run may hold anything.
 pub data Reached : List ℕ → Type 0 where
-  reset : (bytes : List ℕ) → resetRefusal bytes ≡ done → Reached (resetLeft bytes)
-  again : (bytes : List ℕ) → Reached bytes → Reached (resetLeft bytes)
+  reset : (bytes : List ℕ) (edition : ℕ) → resetRefusal bytes edition ≡ done → Reached (resetLeft bytes edition)
+  again : (bytes : List ℕ) (edition : ℕ) → Reached bytes → Reached (resetLeft bytes edition)
   read : (bytes : List ℕ) (o : ℕ) → Reached bytes → Reached (readLeft bytes o)
   write : (bytes : List ℕ) (o v : ℕ) → Reached bytes → Reached (writeLeft bytes o v)
   run : (stop : Stop) (bytes ins outs : List ℕ) → Reached bytes → Reached (runLeft stop bytes ins outs)

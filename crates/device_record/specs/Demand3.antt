@@ -1,7 +1,7 @@
 -- Demand 3 over the bytes of records, as a statement: steps played by what the calls leave. proofs/Demand3.antt proves both parts, proofs/Swap.antt the first one for records in the other order, proofs/Polling.antt the last statement.
 use Prim.Native.Nat.{ℕ, _≤_}
 use mathlib.Core.Path.{_≡_}
-use mathlib.Core.Bool.{true}
+use mathlib.Core.Bool.{Bool, true}
 use mathlib.Core.List.{List, [], _∷_, _++_, map}
 use Rattle.registers.specs.Offsets.{registerOf}
 use Rattle.registers.specs.declared.offsets.Register.the-variants.{Dr}
@@ -10,7 +10,7 @@ use Rattle.frames.specs.Bits.{cut}
 use Rattle.frames.specs.Lines.{pinsOf}
 use Rattle.frames.specs.Slots.{widthOf}
 use Rattle.serial.specs.Pair.{PairModel, pairRun, swapped}
-use Rattle.serial.specs.Demand3.{Step, plays, cyclesIn, Stays, Start, Exchanged, slaveEnabled, enables, Enabling, WholeLoad}
+use Rattle.serial.specs.Demand3.{Step, plays, cyclesIn, Stays, Start, Exchanged, slaveEnabled, enables, inEdition, Enabling, WholeLoad}
 use Rattle.serial.specs.Demand3.Which.{master, slave}
 use Rattle.serial.specs.Demand3.Step.{cycle, read, write}
 use Rattle.device_record.specs.Record.{decode, soundBytes}
@@ -59,11 +59,11 @@ Demand3Records =
     (r : Records) (pre mid : List Step) → SoundRecords r → Start (devicesOf r) → 4 ≤ cyclesIn pre → Stays pre (devicesOf r) → Stays mid (slaveEnabled pre (devicesOf r))
     → ExchangedRecords (playsBytes (steps pre mid (devicesOf r)) r)
 
--- The last sentence: the bytes that a run gives after the write that enabled a master determine its load, cut.
+-- The last sentence: the bytes that a run gives after the write that enabled a master, of either edition, determine its load, cut.
 abbrev pub LastSentenceRecords : Type 0
 LastSentenceRecords =
-    (s : Settings) (b b′ : List ℕ) (o v o′ v′ : ℕ) → soundBytes b ≡ true → soundBytes b′ ≡ true
-    → Enabling s (decode b) o v → Enabling s (decode b′) o′ v′ → (ins ins′ : List ℕ)
+    (s : Settings) (e e′ : Bool) (b b′ : List ℕ) (o v o′ v′ : ℕ) → soundBytes b ≡ true → soundBytes b′ ≡ true
+    → Enabling (inEdition e s) (decode b) o v → Enabling (inEdition e′ s) (decode b′) o′ v′ → (ins ins′ : List ℕ)
     → WholeLoad s (decode (writeLeft b o v)) (map pinsOf ins) → WholeLoad s (decode (writeLeft b′ o′ v′)) (map pinsOf ins′)
     → outputs (decode (writeLeft b o v)) ins ≡ outputs (decode (writeLeft b′ o′ v′)) ins′
     → map (cut (widthOf s)) (decode (writeLeft b o v) .registers .tx) ≡ map (cut (widthOf s)) (decode (writeLeft b′ o′ v′) .registers .tx)

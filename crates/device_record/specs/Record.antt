@@ -66,9 +66,9 @@ engineBytes e =
 unfoldable pub levelBytes : History → Lines → List ℕ
 levelBytes h l = pinByte (h .newest) ∷ pinByte (h .middle) ∷ pinByte (h .oldest) ∷ byteOf l ∷ []
 
--- 28: words to send, words received. 30: spare.
+-- 28: words to send, words received. 30: the edition, 0 the first and 1 the second. 31: spare.
 unfoldable pub countBytes : Fields → List ℕ
-countBytes f = f .waiting ∷ f .held ∷ 0 ∷ 0 ∷ []
+countBytes f = f .waiting ∷ f .held ∷ boolByte (f .control .edition2) ∷ 0 ∷ []
 
 -- 0 to 31.
 unfoldable pub stateBytes : Fields → Engine → History → Lines → List ℕ
@@ -124,11 +124,11 @@ wordsAt b i =
 unfoldable pub linesFrom : ℕ → Lines
 linesFrom x = record { clk = bitAt x 0; fss = bitAt x 1; txd = bitAt x 2; released = bitAt x 3 }
 
--- The registers in bytes 0 to 11, the queue counts in 28 and 29, the queue places in 32 to 63.
+-- The registers in bytes 0 to 11, the queue counts in 28 and 29, the edition in 30, the queue places in 32 to 63.
 unfoldable pub fieldsAt : List ℕ → Fields
 fieldsAt b =
     record {
-      control = record { cr0 = wordAt b 0; cr1 = byteAt b 2; cpsr = byteAt b 3 };
+      control = record { cr0 = wordAt b 0; cr1 = byteAt b 2; cpsr = byteAt b 3; edition2 = flagAt b 30 };
       masks = record { imsc = byteAt b 4; dmacr = byteAt b 5 };
       timeout = record { rt = flagAt b 7; count = cycles (longAt b 8) };
       ror = flagAt b 6;
@@ -166,6 +166,6 @@ eqList (x ∷ xs) [] = false
 eqList (x ∷ xs) (y ∷ ys) = eqb x y && eqList xs ys
 
 -- Sound bytes: the encoding of what they stand for, and that is a sound device.
--- Flags above 1, pins above 7, lines above 15, counts above 8 and anything in an unused place or a spare byte are in no encoding.
+-- Flags and the edition's byte above 1, pins above 7, lines above 15, counts above 8 and anything in an unused place or a spare byte are in no encoding.
 unfoldable pub soundBytes : List ℕ → Bool
 soundBytes b = eqList (encoded (decode b)) b && soundDevice (decode b)

@@ -19,6 +19,13 @@ const BAD_INPUT: u8 = 12;
 
 const UNSOUND: u8 = 9;
 
+const NO_EDITION: u8 = 20;
+
+// The editions, as a reset names them.
+pub const FIRST_EDITION: u32 = 1;
+
+const SECOND_EDITION: u32 = 2;
+
 // What a run answers.
 pub struct RunAnswer {
     pub refusal: u8,
@@ -26,14 +33,14 @@ pub struct RunAnswer {
     pub count: usize,
 }
 
-fn reset_refusal(bytes: &[u8]) -> u8
-    ensures { λ r. ⌜ r ≡ resetRefusal (now (bytes .entry)) ⌝ }
+fn reset_refusal(bytes: &[u8], edition: u32) -> u8
+    ensures { λ r. ⌜ r ≡ resetRefusal (now (bytes .entry)) edition ⌝ }
 {
-    if bytes.len() == RECORD_LENGTH {
-        DONE
-    } else {
-        WRONG_LENGTH
+    if bytes.len() != RECORD_LENGTH {
+        return WRONG_LENGTH;
     }
+    let known = (edition == FIRST_EDITION) | (edition == SECOND_EDITION);
+    if known { DONE } else { NO_EDITION }
 }
 
 fn record_refusal(bytes: &[u8]) -> u8
@@ -86,13 +93,14 @@ pub fn refusal_of(answer: Answer) -> u8
     }
 }
 
-// Makes the record that of a device as after reset, whatever it held.
-pub fn reset_call(bytes: &mut [u8]) -> u8
-    ensures { λ r. ⌜ ResetCall (now (bytes .entry)) r (now (bytes .exit)) ⌝ }
+// Makes the record that of a device as after reset in an edition, whatever it held.
+pub fn reset_call(bytes: &mut [u8], edition: u32) -> u8
+    ensures { λ r. ⌜ ResetCall (now (bytes .entry)) edition r (now (bytes .exit)) ⌝ }
 {
-    let refusal = reset_refusal(bytes);
+    let refusal = reset_refusal(bytes, edition);
     if refusal == DONE {
-        crate::record::encode(serial::reset_device(), bytes);
+        let second = edition == SECOND_EDITION;
+        crate::record::encode(serial::reset_device(second), bytes);
     }
     refusal
 }

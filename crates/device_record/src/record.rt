@@ -88,8 +88,9 @@ fn fields_at(bytes: &[u8]) -> Fields
 {
     let control = Control {
         cr0: word_at(bytes, 0),
-        cr1: byte_at(bytes, 2),
+        cr1: byte_at(bytes, 2) as u16,
         cpsr: byte_at(bytes, 3),
+        edition2: flag_at(bytes, 30),
     };
     let masks = Masks {
         imsc: byte_at(bytes, 4),
@@ -173,7 +174,7 @@ fn state_words(f: Fields, d: Device) -> [u16; 16]
     let n = f.timeout.count.0;
     [
         f.control.cr0,
-        word_of(f.control.cr1, f.control.cpsr),
+        word_of((f.control.cr1 % 256) as u8, f.control.cpsr),
         word_of(f.masks.imsc, f.masks.dmacr),
         word_of(f.ror as u8, f.timeout.rt as u8),
         (n % 0x10000) as u16,
@@ -187,7 +188,7 @@ fn state_words(f: Fields, d: Device) -> [u16; 16]
         word_of(pin_byte(d.pins.newest), pin_byte(d.pins.middle)),
         word_of(pin_byte(d.pins.oldest), frames::lines::byte_of(d.lines)),
         word_of(f.waiting, f.held),
-        0,
+        word_of(f.control.edition2 as u8, 0),
     ]
 }
 

@@ -1,6 +1,6 @@
 -- The engine's state, and the steps of its shift registers.
 use Prim.Native.Nat.{ℕ, _+_}
-use mathlib.Core.Bool.{Bool, true, false}
+use mathlib.Core.Bool.{Bool, true, false, _&&_, _||_}
 use lib.Dec.{ltb, eqb}
 use Rattle.registers.specs.Choose.{pick}
 use Rattle.registers.specs.Time.{cycles, slots}
@@ -12,17 +12,21 @@ use Rattle.frames.specs.declared.engine.Shift.{Shift}
 use Rattle.frames.specs.declared.engine.Engine.{Engine}
 use Rattle.frames.specs.declared.engine.Step.{Step}
 
--- The engine is active: SSE is 1. Its step, refusal 5 and the bounds of soundness go by this, but for the RT count, which goes by SSE itself.
+-- The engine is active: SSE is 1, or a frame is in progress in edition 2. Its step, refusal 5 and the bounds of soundness go by this, but for the RT count, which goes by SSE itself.
 abbrev pub activeOf : Settings → Engine → Bool
-activeOf s e = s .enabled
+activeOf s e = s .enabled || (e .frame && s .edition2)
 
 -- Nothing in the shift registers.
 abbrev pub clearShift : Shift
 clearShift = record { captured = 0; level = false; sending = 0; receiving = 0 }
 
--- No frame, no selection, no mark; slot, cycle and bit counts zero.
+-- No frame, no selection, no mark; slot, cycle and bit counts, shift words and held level zero.
 abbrev pub cleared : Engine
 cleared = record { slot = slots 0; elapsed = cycles 0; frame = false; selected = false; mark = false; shift = clearShift }
+
+-- The engine while it is active, otherwise a clear one. So clearing SSE ends a frame in edition 1, and what follows a frame in both; in edition 2 a frame ends by its own table, and then the engine is clear.
+abbrev pub whileActive : Settings → Engine → Engine
+whileActive s e = pick (activeOf s e) e cleared
 
 -- The engine with one part replaced.
 
@@ -44,6 +48,10 @@ withSelected e t = record { slot = e .slot; elapsed = e .elapsed; frame = e .fra
 -- The next slot begins.
 abbrev pub withNextSlot : Engine → Engine
 withNextSlot e = withElapsed (withSlot e (slots (e .slot .0 + 1))) (cycles 0)
+
+-- The word to send: the next one if it may be taken, else zeros. It may be taken while SSE is 1.
+abbrev pub offered : Bool → ℕ → ℕ
+offered may next = pick may next 0
 
 -- A word is taken; nothing of it is on TXD yet.
 abbrev pub loaded : ℕ → Shift
@@ -78,9 +86,13 @@ completes width x = eqb (x .captured + 1) width
 abbrev pub noWord : Engine → Step
 noWord e = record { engine = e; takes = false; complete = false; word = 0 }
 
--- The next word to send is taken, and a frame is in progress.
+-- A frame is in progress, and the next word to send is taken if it may be.
+abbrev pub begunIf : Bool → Engine → Shift → Step
+begunIf may e x = record { engine = withFrame e true x; takes = may; complete = false; word = 0 }
+
+-- The next word to send is taken.
 abbrev pub begun : Engine → Shift → Step
-begun e x = record { engine = withFrame e true x; takes = true; complete = false; word = 0 }
+begun e x = begunIf true e x
 
 -- A capture. The word that it completes is cut to its width.
 unfoldable pub captureStep : ℕ → Bool → Engine → Step

@@ -7,7 +7,7 @@ use Rattle.registers.specs.Time.{cycles, slots}
 use Rattle.registers.specs.declared.time.Slots.{Slots}
 use Rattle.registers.specs.declared.settings.Settings.{Settings}
 use Rattle.frames.specs.Bits.{bitOf}
-use Rattle.frames.specs.Engine.{clearShift, cleared, withShift, withFrame, withSlot, loaded, started, driven, quieted, noWord, begun, captureStep, withElapsed, withNextSlot}
+use Rattle.frames.specs.Engine.{clearShift, cleared, withShift, withFrame, withSlot, offered, loaded, started, driven, quieted, noWord, begunIf, begun, captureStep, withElapsed, withNextSlot}
 use Rattle.frames.specs.Lines.{masterTxd}
 use Rattle.frames.specs.Slots.{eventOf, lastSlot, widthOf, captureWidth}
 use Rattle.frames.specs.declared.engine.Shift.{Shift}
@@ -38,9 +38,10 @@ abbrev pub joinCapture : Settings → Engine → Bool → Step
 joinCapture s e bit = pick (eqb (e .shift .captured) 0) (noWord e) (captureStep (captureWidth s) bit e)
 
 -- What an event does. `waiting`: a word waits to be sent, the oldest is `next`. `bit`: the data level that a capture takes.
+-- Slot 0 takes a word with SSE set; with SSE clear it takes none, and zeros go out.
 abbrev pub act : Settings → Engine → Bool → ℕ → Bool → Event → Step
-act s e waiting next bit Begin = begun e (loaded next)
-act s e waiting next bit BeginDrive = begun e (started (widthOf s) next)
+act s e waiting next bit Begin = begunIf (s .enabled) e (loaded (offered (s .enabled) next))
+act s e waiting next bit BeginDrive = begunIf (s .enabled) e (started (widthOf s) (offered (s .enabled) next))
 act s e waiting next bit (Drive i) = driveStep s e i
 act s e waiting next bit First = noWord (withShift e (started (widthOf s) (e .shift .sending)))
 act s e waiting next bit Capture = captureStep (captureWidth s) bit e

@@ -1,6 +1,6 @@
 // The engine's state, and the steps of its shift registers.
 ghost use mathlib.Core.Path.{_≡_};
-ghost use Rattle.frames.specs.Engine.{activeOf, clearShift, cleared, withShift, withFrame, withSlot, loaded, started, driven, quieted, capturedOf, completes, noWord, begun, captureStep};
+ghost use Rattle.frames.specs.Engine.{activeOf, clearShift, cleared, whileActive, withShift, withFrame, withSlot, offered, loaded, started, driven, quieted, capturedOf, completes, noWord, begunIf, begun, captureStep};
 use registers::settings::Settings;
 use registers::time::Cycles;
 use registers::time::Slots;
@@ -33,18 +33,18 @@ pub struct Engine {
 // What a cycle's step leaves.
 pub struct Step {
     pub engine: Engine,
-    // the next word to send was taken
+    // the next word to send, if there is one, leaves the queue
     pub takes: bool,
     // a word was completed: this one, else 0
     pub complete: bool,
     pub word: u16,
 }
 
-// Whether the engine is active: SSE is 1. Its step, refusal 5 and the bounds of soundness go by this.
+// Whether the engine is active: SSE is 1, or a frame is in progress in edition 2. Its step, refusal 5 and the bounds of soundness go by this.
 pub fn active_of(s: Settings, e: Engine) -> bool
     ensures { λ r. ⌜ r ≡ activeOf s e ⌝ }
 {
-    s.enabled
+    s.enabled | (e.frame & s.edition2)
 }
 
 pub fn clear_shift() -> Shift
@@ -71,6 +71,14 @@ pub fn cleared() -> Engine
     }
 }
 
+// The engine while it is active, else a clear one.
+pub fn while_active(s: Settings, e: Engine) -> Engine
+    ensures { λ r. ⌜ r ≡ whileActive s e ⌝ }
+{
+    let active = active_of(s, e);
+    if active { e } else { cleared() }
+}
+
 pub fn with_shift(e: Engine, shift: Shift) -> Engine
     ensures { λ r. ⌜ r ≡ withShift e shift ⌝ }
 {
@@ -94,6 +102,13 @@ pub fn with_slot(e: Engine, slot: Slots) -> Engine
     let mut next = e;
     next.slot = slot;
     next
+}
+
+// The word to send: zeros where none may be taken.
+pub fn offered(may: bool, next: u16) -> u16
+    ensures { λ r. ⌜ r ≡ offered may next ⌝ }
+{
+    if may { next } else { 0 }
 }
 
 // A word is taken; nothing of it is on TXD yet.
@@ -176,17 +191,24 @@ pub fn no_word(e: Engine) -> Step
     }
 }
 
-// The next word to send is taken, and a frame is in progress.
-pub fn begun(e: Engine, shift: Shift) -> Step
-    ensures { λ r. ⌜ r ≡ begun e shift ⌝ }
+// A frame is in progress, and the next word to send is taken if it may be.
+pub fn begun_if(may: bool, e: Engine, shift: Shift) -> Step
+    ensures { λ r. ⌜ r ≡ begunIf may e shift ⌝ }
 {
     let next = with_frame(e, true, shift);
     Step {
         engine: next,
-        takes: true,
+        takes: may,
         complete: false,
         word: 0,
     }
+}
+
+// The next word to send is taken.
+pub fn begun(e: Engine, shift: Shift) -> Step
+    ensures { λ r. ⌜ r ≡ begun e shift ⌝ }
+{
+    begun_if(true, e, shift)
 }
 
 // A capture, with the word that it completes.

@@ -69,11 +69,14 @@ pub fn act(s: Settings, e: Engine, waiting: bool, next: u16, bit: bool, event: E
     ensures { λ r. ⌜ r ≡ act s e waiting next bit event ⌝ }
 {
     let shift = e.shift;
+    let may = s.enabled;
+    let word = crate::engine::offered(may, next);
     match event {
-        Event::Begin => crate::engine::begun(e, crate::engine::loaded(next)),
-        Event::BeginDrive => crate::engine::begun(
+        Event::Begin => crate::engine::begun_if(may, e, crate::engine::loaded(word)),
+        Event::BeginDrive => crate::engine::begun_if(
+            may,
             e,
-            crate::engine::started(crate::slots::width_of(s), next),
+            crate::engine::started(crate::slots::width_of(s), word),
         ),
         Event::Drive(i) => drive_step(s, e, i),
         Event::First => crate::engine::no_word(crate::engine::with_shift(

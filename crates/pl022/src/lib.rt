@@ -1,6 +1,6 @@
 // The calls for C: numbers, the 128 bytes of a record, line bytes and texts. include/pl022.h describes them for a C programmer.
 // Each hands its arguments to a crate below and its answer back; no rule of the device or of a text stands here.
-ghost use Rattle.device_record.specs.Calls.{ResetCall, WriteCall, PairCall};
+ghost use Rattle.device_record.specs.Calls.{firstEdition, ResetCall, WriteCall, PairCall};
 ghost use Rattle.pl022.specs.Results.{ReadResult, RunResult, IdleResult, WriteTextResult, ReadTextResult};
 use device_record::run::Stop;
 use registers::access::Answer;
@@ -32,12 +32,20 @@ pub struct TextResult {
     pub starts: u64,
 }
 
-// Makes the record that of a device as after reset, whatever it held.
+// Makes the record that of a device as after reset, whatever it held, in the first edition.
 #[no_mangle]
 pub extern "C" fn pl022_reset(bytes: &mut [u8]) -> u32
-    ensures { λ r. ⌜ ResetCall (now (bytes .entry)) r (now (bytes .exit)) ⌝ }
+    ensures { λ r. ⌜ ResetCall (now (bytes .entry)) firstEdition r (now (bytes .exit)) ⌝ }
 {
-    device_record::calls::reset_call(bytes) as u32
+    device_record::calls::reset_call(bytes, device_record::calls::FIRST_EDITION) as u32
+}
+
+// The same in edition 1 or 2; any other is refused.
+#[no_mangle]
+pub extern "C" fn pl022_reset_edition(bytes: &mut [u8], edition: u32) -> u32
+    ensures { λ r. ⌜ ResetCall (now (bytes .entry)) edition r (now (bytes .exit)) ⌝ }
+{
+    device_record::calls::reset_call(bytes, edition) as u32
 }
 
 // Reads a register.

@@ -1,5 +1,9 @@
 // Prints recordings of every format through the proved code, a line each: a name, then a digit a cycle.
-// What it must write was made before: P1 to P5 and the Microwire slaves by hand from the rules of docs/MODEL.md, the others by the second program in compare/.
+// What it must write was made before: P1 to P5, the Microwire slaves and the ports stopped in a frame by hand from the rules of docs/MODEL.md, the others by the second program in compare/.
+
+// Ports stopped in the middle of a frame.
+mod stopped;
+
 use libc::STDOUT_FILENO;
 use registers::access::Answer;
 use serial::Device;
@@ -64,8 +68,12 @@ fn loaded(d: Device, words: &[u32]) -> Device {
 }
 
 // A device from reset: CR0, CPSR, the words to send, CR1.
-fn set_up(cr0: u32, cpsr: u32, words: &[u32], cr1: u32) -> Device {
-    let quiet = written(written(serial::reset_device(), CR0, cr0), CPSR, cpsr);
+fn set_up(edition2: bool, cr0: u32, cpsr: u32, words: &[u32], cr1: u32) -> Device {
+    let quiet = written(
+        written(serial::reset_device(edition2), CR0, cr0),
+        CPSR,
+        cpsr,
+    );
     written(loaded(quiet, words), CR1, cr1)
 }
 
@@ -112,7 +120,7 @@ fn put_received(d: Device) -> Device {
 fn master(name: &[u8], cr0: u32, cpsr: u32, words: &[u32], cycles: u16) {
     put(name);
     put(b": ");
-    run_low(set_up(cr0, cpsr, words, MASTER), cycles);
+    run_low(set_up(false, cr0, cpsr, words, MASTER), cycles);
     put(b"\n");
 }
 
@@ -120,7 +128,7 @@ fn master(name: &[u8], cr0: u32, cpsr: u32, words: &[u32], cycles: u16) {
 fn driven(name: &[u8], cr0: u32, cr1: u32, words: &[u32], wave: &[u8]) {
     put(name);
     put(b": ");
-    let last = run_along(set_up(cr0, 2, words, cr1), wave);
+    let last = run_along(set_up(false, cr0, 2, words, cr1), wave);
     put(b"\n");
     put(name);
     put(b" received: ");
@@ -432,4 +440,5 @@ fn main() {
     receivers();
     slaves();
     microwire_slaves();
+    stopped::all();
 }

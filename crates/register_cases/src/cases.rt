@@ -147,7 +147,7 @@ pub(crate) fn run(script: &[u8]) {
     let mut state = State {
         in_label: true,
         command: no_command(),
-        outcome: commands::run(registers::reset_registers(), b's', 0, 0),
+        outcome: commands::run(registers::reset_registers(false), b's', 0, 0),
     };
     let mut i: usize = 0;
     while i < script.len() {

@@ -94,7 +94,7 @@ fn set(r: Registers, offset: u32, value: u32) -> Registers {
 }
 
 fn enabled(cr0: u32, cpsr: u32) -> Registers {
-    let a = set(registers::reset_registers(), CR0, cr0);
+    let a = set(registers::reset_registers(false), CR0, cr0);
     let b = set(a, CPSR, cpsr);
     set(b, CR1, 0x2)
 }
@@ -132,7 +132,7 @@ fn cycles(r: Registers, n: u32) -> Registers {
 // `last` is the command's last number, `first` the one before it.
 pub(crate) fn run(r: Registers, letter: u8, first: u32, last: u32) -> Outcome {
     match letter {
-        b's' => done(registers::reset_registers()),
+        b's' => done(registers::reset_registers(false)),
         b'e' => done(enabled(first, last)),
         b'w' => write(r, first, last),
         b'r' => read(r, last, false),

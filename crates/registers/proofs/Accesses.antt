@@ -13,7 +13,7 @@ use Rattle.registers.specs.Refusals.{firstOf}
 use Rattle.registers.specs.Model.{Model}
 use Rattle.registers.specs.Offsets.{registerOf}
 use Rattle.registers.specs.Settings.{permittedOf}
-use Rattle.registers.specs.Access.{readRefusal, readDone, readModel, dataTaken, bitsBeyond, cr0Rule, cr1Rule, cpsrRule, writeRefusal, cr1Written, icrWritten, drWritten, imscWritten, dmacrWritten, writeDone, writeModel}
+use Rattle.registers.specs.Access.{readRefusal, readDone, readModel, dataTaken, bitsBeyond, cr0Rule, cr1Rule, cpsrRule, writeRefusal, cr0Written, cr1Written, cpsrWritten, icrWritten, drWritten, imscWritten, dmacrWritten, writeDone, writeModel}
 use Rattle.registers.specs.declared.Control.{Control}
 use Rattle.registers.specs.declared.offsets.Register.{Register}
 use Rattle.registers.specs.declared.offsets.Register.the-variants.{Cr0, Cr1, Dr, Sr, Cpsr, Imsc, Ris, Mis, Icr, Dmacr, Identity, Reserved, Outside}
@@ -140,6 +140,29 @@ bounds-written m active Dmacr v e r = bounds-control m _ refl
 bounds-written m active (Identity i) v e r = bounds-control m _ refl
 bounds-written m active Reserved v e r = bounds-control m _ refl
 bounds-written m active Outside v e r = bounds-control m _ refl
+
+-- no write changes the edition
+
+edition-written : (m : Model) (p : Register) (v : ℕ) → writeDone m p v .control .edition2 ≡ m .control .edition2
+unfolding cr0Written cr1Written cpsrWritten icrWritten drWritten imscWritten dmacrWritten
+edition-written m Cr0 v = refl
+edition-written m Cr1 v = refl
+edition-written m Dr v = refl
+edition-written m Sr v = refl
+edition-written m Cpsr v = refl
+edition-written m Imsc v = refl
+edition-written m Ris v = refl
+edition-written m Mis v = refl
+edition-written m Icr v = refl
+edition-written m Dmacr v = refl
+edition-written m (Identity i) v = refl
+edition-written m Reserved v = refl
+edition-written m Outside v = refl
+
+pub edition-write : (m : Model) (active : Bool) (o v : ℕ) → writeModel m active o v .control .edition2 ≡ m .control .edition2
+unfolding writeModel
+edition-write m active o v =
+    pick-both (λ (x : Model). x .control .edition2 ≡ m .control .edition2) (eqb (writeRefusal m active (registerOf o) v) 0) _ _ (λ _. edition-written m (registerOf o) v) (λ _. refl)
 
 pub bounds-write : (m : Model) (active : Bool) (o v : ℕ) → active ≡ true → SameBounds m (writeModel m active o v)
 unfolding writeModel

@@ -13,7 +13,7 @@ use Rattle.queue.specs.Fifo.{added, rest}
 use Rattle.registers.specs.Bits.{bitAt}
 use Rattle.registers.proofs.Picks.{pick-yes, pick-no, pick-both, and-left, and-right, and-both, or-right, under-elim, under-intro, not-elim, not-intro, both-absurd}
 use Rattle.registers.specs.Time.{cyclesOf}
-use Rattle.registers.specs.Model.{Model, resetRegisters}
+use Rattle.registers.specs.Model.{Model, resetRegisters, withCr0, withCr1, withCpsr}
 use Rattle.registers.specs.Offsets.{registerOf}
 use Rattle.registers.specs.Settings.{permittedOf, enabledOf, divisorOf, bitsOf, formatOf}
 use Rattle.registers.specs.Access.{readModel, dataTaken, keptCount, writeRefusal, cr0Written, cr1Written, cpsrWritten, icrWritten, drWritten, imscWritten, dmacrWritten, writeDone, writeModel}
@@ -161,9 +161,9 @@ added-most xs w h =
 
 -- Reset and the engine's steps ---------------------------------------------------------------------------------------
 
-pub sound-reset : soundRegisters resetRegisters false ≡ true
+pub sound-reset : (edition2 : Bool) → soundRegisters (resetRegisters edition2) false ≡ true
 unfolding soundRegisters controlSound masksSound queuesSound countSound enabledOf permittedOf
-sound-reset = refl
+sound-reset edition2 = refl
 
 pub sound-take : (m : Model) (active : Bool) → soundRegisters m active ≡ true → soundRegisters (takeWord m) active ≡ true
 unfolding takeWord
@@ -221,7 +221,7 @@ Becomes active active′ c = active′ ≡ true → (active ≡ true) ⊎ (enabl
 still-active : (c c′ : Control) (active active′ : Bool) → enabledOf c′ ≡ enabledOf c → Enables c active → Becomes active active′ c′ → active′ ≡ true → active ≡ true
 still-active c c′ active active′ same on becomes e = either (λ x. x) (λ x. on (sym same ∙ x)) (becomes e)
 
-sound-active : (m : Model) (active active′ : Bool) → (active′ ≡ true → active ≡ true) → soundRegisters m active ≡ true → soundRegisters m active′ ≡ true
+pub sound-active : (m : Model) (active active′ : Bool) → (active′ ≡ true → active ≡ true) → soundRegisters m active ≡ true → soundRegisters m active′ ≡ true
 sound-active m active active′ k h =
     let t = sound-elim m active h in
     let c = t .control in
@@ -248,7 +248,7 @@ module _ (m : Model) (active active′ : Bool) (v : ℕ) (on : Enables (m .contr
   sound-cr0 r becomes =
       let t = sound-elim m active h in
       let d = cr0-done m active v r in
-      let c : Control = record { cr0 = v % 0x10000; cr1 = m .control .cr1; cpsr = m .control .cpsr } in
+      let c : Control = withCr0 (m .control) (v % 0x10000) in
       let p : permittedOf (v % 0x10000) ≡ true = rw (mod-eq-of-lt (d .small)) (d .permitted) in
       sound-intro _ active′ (record {
         control = record {
@@ -270,7 +270,7 @@ module _ (m : Model) (active active′ : Bool) (v : ℕ) (on : Enables (m .contr
   sound-cr1 r becomes on′ =
       let t = sound-elim m active h in
       let d = cr1-done m active v r in
-      let c : Control = record { cr0 = m .control .cr0; cr1 = v % 0x10; cpsr = m .control .cpsr } in
+      let c : Control = withCr1 (m .control) (v % 0x10) in
       let same : bitAt (v % 0x10) 1 ≡ bitAt v 1 = ap (λ (x : ℕ). bitAt x 1) (mod-eq-of-lt (d .small)) in
       let u : ControlFacts c active′ = record {
         shape = t .control .shape;
@@ -295,7 +295,7 @@ module _ (m : Model) (active active′ : Bool) (v : ℕ) (on : Enables (m .contr
   sound-cpsr r becomes =
       let t = sound-elim m active h in
       let d = cpsr-done m active v r in
-      let c : Control = record { cr0 = m .control .cr0; cr1 = m .control .cr1; cpsr = v % 0x100 / 2 * 2 } in
+      let c : Control = withCpsr (m .control) (v % 0x100 / 2 * 2) in
       let none : active′ ≡ true → ⊥ = λ e. both-absurd active (still-active (m .control) c active active′ refl on becomes e) (d .clear) in
       sound-intro _ active′ (record {
         control = record {
@@ -422,9 +422,9 @@ next-fits m h = go (m .tx) h
     go [] h = omega arith
     go (x ∷ xs) h = ltb-true _ _ (and-left (ltb x 0x10000) _ h)
 
-pub fits-reset : registersFit resetRegisters ≡ true
+pub fits-reset : (edition2 : Bool) → registersFit (resetRegisters edition2) ≡ true
 unfolding registersFit wordsFit
-fits-reset = refl
+fits-reset edition2 = refl
 
 pub fits-take : (m : Model) → registersFit m ≡ true → registersFit (takeWord m) ≡ true
 unfolding takeWord

@@ -9,8 +9,8 @@ use Rattle.queue.specs.Fifo.{added, rest}
 use Rattle.registers.specs.Choose.{pick}
 use Rattle.registers.specs.Bits.{bitAt, bitsDiffer}
 use Rattle.registers.specs.Time.{cycles}
-use Rattle.registers.specs.Refusals.{done, badOffset, reservedOffset, wrongAccess, extraBits, whileEnabled, notPermitted, queueFull, queueEmpty, firstOf, refusalOf, wordOf}
-use Rattle.registers.specs.Model.{Model, modelOf, withControl, withMasks, withTimeout, withRor, withTx, withRx}
+use Rattle.registers.specs.Refusals.{done, badOffset, reservedOffset, wrongAccess, extraBits, engineActive, notPermitted, queueFull, queueEmpty, firstOf, refusalOf, wordOf}
+use Rattle.registers.specs.Model.{Model, modelOf, withCr0, withCr1, withCpsr, withControl, withMasks, withTimeout, withRor, withTx, withRx}
 use Rattle.registers.specs.Offsets.{registerOf, identityOf}
 use Rattle.registers.specs.Settings.{permittedOf}
 use Rattle.registers.specs.Flags.{statusOf, rawOf, maskedOf, interruptWord}
@@ -119,18 +119,18 @@ writeAccess Outside v = badOffset
 
 -- CR0: 5 while active; 6 if it is not permitted.
 unfoldable pub cr0Rule : Bool → ℕ → ℕ
-cr0Rule active v = pick active whileEnabled (pick (permittedOf v) done notPermitted)
+cr0Rule active v = pick active engineActive (pick (permittedOf v) done notPermitted)
 
 -- CR1: 5 with another MS or LBM while active; 6 if it sets SSE while CR0 is not permitted or CPSR is 0.
 unfoldable pub cr1Rule : Model → Bool → ℕ → ℕ
 cr1Rule m active v =
-    pick (active && (bitsDiffer (m .control .cr1) v 2 || bitsDiffer (m .control .cr1) v 0)) whileEnabled
+    pick (active && (bitsDiffer (m .control .cr1) v 2 || bitsDiffer (m .control .cr1) v 0)) engineActive
     (pick (bitAt v 1 && (not (permittedOf (m .control .cr0)) || eqb (m .control .cpsr) 0)) notPermitted
     done)
 
 -- CPSR: 5 while active.
 unfoldable pub cpsrRule : Bool → ℕ
-cpsrRule active = pick active whileEnabled done
+cpsrRule active = pick active engineActive done
 
 -- DR: 7 with eight words waiting.
 unfoldable pub drRule : Model → ℕ
@@ -162,17 +162,17 @@ keptCount keep n = pick keep n (cycles 0)
 
 -- A written CR0.
 unfoldable pub cr0Written : Model → ℕ → Model
-cr0Written m v = withControl m (record { cr0 = v % 0x10000; cr1 = m .control .cr1; cpsr = m .control .cpsr })
+cr0Written m v = withControl m (withCr0 (m .control) (v % 0x10000))
 
 -- A written CR1; with SSE clear the timeout's count is zero. Both queues stay.
 unfoldable pub cr1Written : Model → ℕ → Model
 cr1Written m v =
-    withTimeout (withControl m (record { cr0 = m .control .cr0; cr1 = v % 0x10; cpsr = m .control .cpsr }))
+    withTimeout (withControl m (withCr1 (m .control) (v % 0x10)))
     (record { rt = m .timeout .rt; count = keptCount (bitAt v 1) (m .timeout .count) })
 
 -- A written CPSR, bit 0 dropped.
 unfoldable pub cpsrWritten : Model → ℕ → Model
-cpsrWritten m v = withControl m (record { cr0 = m .control .cr0; cr1 = m .control .cr1; cpsr = v % 0x100 / 2 * 2 })
+cpsrWritten m v = withControl m (withCpsr (m .control) (v % 0x100 / 2 * 2))
 
 -- ICR: a one clears. RT's bit restarts the count too.
 unfoldable pub icrWritten : Model → ℕ → Model

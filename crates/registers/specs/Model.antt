@@ -12,7 +12,7 @@ pub mod Inside
 
 -- A register file as the definitions see it.
 pub record Model : Type 0 where
-  -- CR0, CR1, CPSR
+  -- CR0, CR1, CPSR, and the edition
   pub control : Control
   -- IMSC, DMACR
   pub masks : Masks
@@ -29,17 +29,32 @@ pub record Model : Type 0 where
 pub modelOf : Registers → Model
 modelOf r = record { control = r .control; masks = r .masks; timeout = r .timeout; ror = r .ror; tx = contents (r .tx); rx = contents (r .rx) }
 
--- Reset: all zero, queues empty.
-abbrev pub resetRegisters : Model
-resetRegisters =
+-- Reset: all zero, queues empty; it chooses the edition, the second one or not.
+abbrev pub resetRegisters : Bool → Model
+resetRegisters edition2 =
     record {
-      control = record { cr0 = 0; cr1 = 0; cpsr = 0 };
+      control = record { cr0 = 0; cr1 = 0; cpsr = 0; edition2 = edition2 };
       masks = record { imsc = 0; dmacr = 0 };
       timeout = record { rt = false; count = cycles 0 };
       ror = false;
       tx = [];
       rx = [];
     }
+
+-- The control registers with one replaced; the edition stays.
+
+abbrev pub withCr0 : Control → ℕ → Control
+withCr0 c x = record { cr0 = x; cr1 = c .cr1; cpsr = c .cpsr; edition2 = c .edition2 }
+
+abbrev pub withCr1 : Control → ℕ → Control
+withCr1 c x = record { cr0 = c .cr0; cr1 = x; cpsr = c .cpsr; edition2 = c .edition2 }
+
+abbrev pub withCpsr : Control → ℕ → Control
+withCpsr c x = record { cr0 = c .cr0; cr1 = c .cr1; cpsr = x; edition2 = c .edition2 }
+
+-- The same in an edition, the second or the first.
+abbrev pub withEdition : Control → Bool → Control
+withEdition c t = record { cr0 = c .cr0; cr1 = c .cr1; cpsr = c .cpsr; edition2 = t }
 
 -- The model with one part replaced.
 

@@ -26,8 +26,8 @@ abbrev pub extraBits : ℕ
 extraBits = 4
 
 -- not while the engine is active
-abbrev pub whileEnabled : ℕ
-whileEnabled = 5
+abbrev pub engineActive : ℕ
+engineActive = 5
 
 -- CR0 not permitted, or not enough set up to enable
 abbrev pub notPermitted : ℕ

@@ -47,11 +47,11 @@ abbrev pub enabled : Model → Bool
 enabled m = enabledOf (m .control)
 
 -- The settings, by their parts.
-abbrev pub settingsBy : Format → Bool → Bool → ℕ → Divisor → Bool → Bool → Bool → Bool → Settings
-settingsBy f phase polarity b h slave sod loopback enabled =
-    record { format = f; phase = phase; polarity = polarity; bits = b; divisor = h; slave = slave; sod = sod; loopback = loopback; enabled = enabled }
+abbrev pub settingsBy : Format → Bool → Bool → ℕ → Divisor → Bool → Bool → Bool → Bool → Bool → Settings
+settingsBy f phase polarity b h slave sod loopback enabled edition2 =
+    record { format = f; phase = phase; polarity = polarity; bits = b; divisor = h; slave = slave; sod = sod; loopback = loopback; enabled = enabled; edition2 = edition2 }
 
--- All that the engine goes by: SPH is CR0's bit 7 and SPO its bit 6, MS CR1's bit 2, SOD its bit 3, LBM its bit 0.
+-- All that the engine goes by: SPH is CR0's bit 7 and SPO its bit 6, MS CR1's bit 2, SOD its bit 3, LBM its bit 0; the edition is as reset chose it.
 unfoldable pub settingsOf : Control → Settings
 settingsOf c =
-    settingsBy (formatOf (c .cr0)) (bitAt (c .cr0) 7) (bitAt (c .cr0) 6) (bitsOf (c .cr0)) (divisorOf c) (bitAt (c .cr1) 2) (bitAt (c .cr1) 3) (bitAt (c .cr1) 0) (enabledOf c)
+    settingsBy (formatOf (c .cr0)) (bitAt (c .cr0) 7) (bitAt (c .cr0) 6) (bitsOf (c .cr0)) (divisorOf c) (bitAt (c .cr1) 2) (bitAt (c .cr1) 3) (bitAt (c .cr1) 0) (enabledOf c) (c .edition2)

@@ -3,7 +3,6 @@ ghost use mathlib.Core.Path.{_≡_};
 ghost use mathlib.Core.Bool.{Bool};
 ghost use Rattle.registers.specs.Model.{modelOf};
 ghost use Rattle.registers.specs.Access.{readRefusal, readWord, readDone, dataTaken, Read, bitsBeyond, writeAccess, cr0Rule, cr1Rule, cpsrRule, drRule, writeRule, writeRefusal, keptCount, cr0Written, cr1Written, cpsrWritten, icrWritten, drWritten, imscWritten, dmacrWritten, writeDone, Write};
-use crate::Control;
 use crate::Masks;
 use crate::Registers;
 use crate::Timeout;
@@ -22,7 +21,7 @@ pub const WRONG_ACCESS: u8 = 3;
 
 pub const EXTRA_BITS: u8 = 4;
 
-pub const WHILE_ENABLED: u8 = 5;
+pub const ENGINE_ACTIVE: u8 = 5;
 
 pub const NOT_PERMITTED: u8 = 6;
 
@@ -76,7 +75,7 @@ fn read_word(r: Registers, frame: bool, register: Register) -> u16
 {
     match register {
         Register::Cr0 => r.control.cr0,
-        Register::Cr1 => r.control.cr1 as u16,
+        Register::Cr1 => r.control.cr1,
         Register::Dr => queue::word_at(r.rx, 0),
         Register::Sr => crate::flags::status_of(r, frame),
         Register::Cpsr => r.control.cpsr as u16,
@@ -182,7 +181,7 @@ fn cr0_rule(active: bool, value: u32) -> u8
 {
     let good = crate::settings::permitted_of(value);
     if active {
-        WHILE_ENABLED
+        ENGINE_ACTIVE
     } else if good {
         DONE
     } else {
@@ -198,7 +197,7 @@ fn cr1_rule(r: Registers, active: bool, value: u32) -> u8
     let good = crate::settings::permitted_of(r.control.cr0 as u32);
     let unready = bits::bit_at(value, 1) & (!good | (r.control.cpsr == 0));
     if held {
-        return WHILE_ENABLED;
+        return ENGINE_ACTIVE;
     }
     if unready { NOT_PERMITTED } else { DONE }
 }
@@ -206,7 +205,7 @@ fn cr1_rule(r: Registers, active: bool, value: u32) -> u8
 fn cpsr_rule(active: bool) -> u8
     ensures { λ n. ⌜ n ≡ cpsrRule active ⌝ }
 {
-    if active { WHILE_ENABLED } else { DONE }
+    if active { ENGINE_ACTIVE } else { DONE }
 }
 
 fn dr_rule(r: Registers) -> u8
@@ -251,13 +250,9 @@ fn write_refusal(r: Registers, active: bool, register: Register, value: u32) -> 
 fn cr0_written(r: Registers, value: u32) -> Registers
     ensures { λ n. ⌜ modelOf n ≡ cr0Written (modelOf r) value ⌝ }
 {
-    let control = Control {
-        cr0: (value % 0x10000) as u16,
-        cr1: r.control.cr1,
-        cpsr: r.control.cpsr,
-    };
+    let cr0 = (value % 0x10000) as u16;
     let mut next = r;
-    next.control = control;
+    next.control.cr0 = cr0;
     next
 }
 
@@ -272,17 +267,13 @@ fn kept_count(keep: bool, count: Cycles) -> Cycles
 fn cr1_written(r: Registers, value: u32) -> Registers
     ensures { λ n. ⌜ modelOf n ≡ cr1Written (modelOf r) value ⌝ }
 {
-    let control = Control {
-        cr0: r.control.cr0,
-        cr1: (value % 0x10) as u8,
-        cpsr: r.control.cpsr,
-    };
+    let cr1 = (value % 0x10) as u16;
     let timeout = Timeout {
         rt: r.timeout.rt,
         count: kept_count(bits::bit_at(value, 1), r.timeout.count),
     };
     let mut next = r;
-    next.control = control;
+    next.control.cr1 = cr1;
     next.timeout = timeout;
     next
 }
@@ -291,13 +282,9 @@ fn cr1_written(r: Registers, value: u32) -> Registers
 fn cpsr_written(r: Registers, value: u32) -> Registers
     ensures { λ n. ⌜ modelOf n ≡ cpsrWritten (modelOf r) value ⌝ }
 {
-    let control = Control {
-        cr0: r.control.cr0,
-        cr1: r.control.cr1,
-        cpsr: (value % 0x100 / 2 * 2) as u8,
-    };
+    let cpsr = (value % 0x100 / 2 * 2) as u8;
     let mut next = r;
-    next.control = control;
+    next.control.cpsr = cpsr;
     next
 }
 

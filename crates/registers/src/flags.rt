@@ -20,7 +20,7 @@ fn value_of(flag: bool, weight: u16) -> u16
     if flag { weight } else { 0 }
 }
 
-// BSY: a frame is in progress, or words wait to be sent.
+// BSY: a frame is in progress, or the transmit queue is not empty.
 pub fn busy_of(r: Registers, frame: bool) -> bool
     ensures { λ b. ⌜ b ≡ busyOf (modelOf r) frame ⌝ }
 {

@@ -25,11 +25,14 @@ pub mod fields;
 use crate::time::Cycles;
 use queue::Queue;
 
-// The registers that set the port up.
+// What sets the port up.
 pub struct Control {
     pub cr0: u16,
-    pub cr1: u8,
+    // two bytes wide, so that no gap is left at the end
+    pub cr1: u16,
     pub cpsr: u8,
+    // chosen at reset: the second edition, in which a frame goes on after SSE is cleared
+    pub edition2: bool,
 }
 
 // The registers that the port stores and the engine does not go by.
@@ -44,25 +47,26 @@ pub struct Timeout {
     pub count: Cycles,
 }
 
-// The register file. The small fields stand together: a copy of it then has no gap to carry.
+// The register file. The small fields stand together, the masks first: a copy of it then has no wide gap to carry.
 pub struct Registers {
-    control: Control,
     masks: Masks,
+    control: Control,
     ror: bool,
     timeout: Timeout,
     tx: Queue,
     rx: Queue,
 }
 
-// All zero, queues empty.
-pub fn reset_registers() -> Registers
-    ensures { λ r. ⌜ modelOf r ≡ resetRegisters ⌝ }
+// All zero, queues empty, of the edition that was chosen.
+pub fn reset_registers(edition2: bool) -> Registers
+    ensures { λ r. ⌜ modelOf r ≡ resetRegisters edition2 ⌝ }
 {
     Registers {
         control: Control {
             cr0: 0,
             cr1: 0,
             cpsr: 0,
+            edition2,
         },
         masks: Masks { imsc: 0, dmacr: 0 },
         timeout: Timeout {

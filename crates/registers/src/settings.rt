@@ -34,6 +34,8 @@ pub struct Settings {
     pub loopback: bool,
     // SSE
     pub enabled: bool,
+    // the second edition
+    pub edition2: bool,
 }
 
 fn format_of(cr0: u16) -> Format
@@ -95,5 +97,6 @@ pub fn settings_of(r: Registers) -> Settings
         sod: bits::bit_at(cr1, 3),
         loopback: bits::bit_at(cr1, 0),
         enabled: on,
+        edition2: c.edition2,
     }
 }

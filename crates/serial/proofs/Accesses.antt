@@ -10,15 +10,16 @@ use Rattle.registers.specs.Bits.{bitAt, bitsDiffer}
 use Rattle.registers.specs.Refusals.{refusalOf}
 use Rattle.registers.specs.Model.{Model}
 use Rattle.registers.specs.Offsets.{registerOf}
-use Rattle.registers.specs.Settings.{enabledOf, permittedOf}
+use Rattle.registers.specs.Settings.{enabledOf, settingsOf, permittedOf}
 use Rattle.registers.specs.Access.{readRefusal, readWord, readDone, readModel, writeDone, writeModel, readAnswer, bitsBeyond, writeAccess, cr0Rule, cr1Rule, cpsrRule, drRule, writeRule, writeRefusal}
+use Rattle.registers.specs.declared.Control.{Control}
 use Rattle.registers.specs.declared.access.Answer.the-variants.{Word, Refused}
 use Rattle.registers.specs.declared.offsets.Register.{Register}
 use Rattle.registers.specs.declared.offsets.Register.the-variants.{Cr0, Cr1, Dr, Sr, Cpsr, Imsc, Ris, Mis, Icr, Dmacr, Identity, Reserved, Outside}
 use Rattle.serial.specs.Cycle.{DeviceModel, activeDevice, withRegisters, withEngine}
 use Rattle.registers.proofs.Picks.{pick-no}
 use Rattle.registers.proofs.Accesses.{read-either}
-use Rattle.frames.specs.Engine.{cleared}
+use Rattle.frames.specs.Engine.{cleared, whileActive}
 use Rattle.serial.specs.Access.{readAnswerOf, readDevice, writeRefusalOf, engineAfter, writeDevice}
 use Rattle.frames.specs.declared.engine.Engine.{Engine}
 
@@ -113,11 +114,11 @@ read-same d o h = go (eqb (readRefusal (d .registers) (registerOf o)) 0) h
     go true k = absurd (true≢false k)
     go false k = refl
 
-same-engine : (m : Model) (e : Engine) → engineAfter m m e ≡ e
-unfolding engineAfter
+pub same-engine : (m : Model) (e : Engine) → engineAfter m m e ≡ e
+unfolding engineAfter settingsOf
 same-engine m e = go (enabledOf (m .control))
   where
-    go : (t : Bool) → pick (t && not t) cleared e ≡ e
+    go : (t : Bool) → pick t (pick (t || (e .frame && m .control .edition2)) e cleared) e ≡ e
     go true = refl
     go false = refl
 
@@ -137,4 +138,10 @@ read-other-same d o h = ap (withRegisters d) (read-either (λ (x : Model). x ≡
 -- A write to a device whose SSE is clear leaves its engine.
 pub engine-enabling : (d : DeviceModel) (o v : ℕ) → enabledOf (d .registers .control) ≡ false → writeDevice d o v .engine ≡ d .engine
 unfolding writeDevice engineAfter
-engine-enabling d o v k = pick-no _ _ (ap (λ (t : Bool). t && not (enabledOf (writeModel (d .registers) (activeDevice d) o v .control))) k)
+engine-enabling d o v k = pick-no _ _ k
+
+-- A write that leaves the control registers leaves the engine.
+pub engine-kept : (d : DeviceModel) (o v : ℕ) → writeDevice d o v .registers .control ≡ d .registers .control → writeDevice d o v .engine ≡ d .engine
+unfolding writeDevice engineAfter
+engine-kept d o v h =
+    ap (λ (c : Control). pick (enabledOf (d .registers .control)) (whileActive (settingsOf c) (d .engine)) (d .engine)) h ∙ same-engine (d .registers) (d .engine)

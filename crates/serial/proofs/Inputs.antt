@@ -4,6 +4,7 @@ use Rattle.registers.specs.Choose.{pick}
 use Rattle.registers.specs.Settings.{settingsOf}
 use Rattle.registers.specs.Transfer.{rest}
 use Rattle.registers.specs.declared.Control.{Control}
+use Rattle.frames.specs.Engine.{whileActive}
 use Rattle.frames.specs.Lines.{masterLines}
 use Rattle.frames.specs.Master.{masterEnd}
 use Rattle.serial.specs.Cycle.{DeviceModel, cycleOf}
@@ -33,7 +34,7 @@ cycle-alike d d′ p q k a =
       control = control-cycle d p ∙ a .control ∙ sym (control-cycle d′ q);
       masks = masks-cycle d p ∙ a .masks ∙ sym (masks-cycle d′ q);
       tx = tx-sends d p k ∙ (λ i. pick (send-alike a i .takes) (rest (a .tx i)) (a .tx i)) ∙ sym (tx-sends d′ q (masters-alike a k));
-      engine = engine-sends d p k ∙ (λ i. masterEnd (settingsOf (a .control i)) (send-alike a i .engine)) ∙ sym (engine-sends d′ q (masters-alike a k));
+      engine = engine-sends d p k ∙ (λ i. whileActive (settingsOf (a .control i)) (masterEnd (settingsOf (a .control i)) (send-alike a i .engine))) ∙ sym (engine-sends d′ q (masters-alike a k));
     }
 
 pub lines-alike : (d d′ : DeviceModel) (p q : Pins) → Masters d → Alike d d′ → cycleOf d p .lines ≡ cycleOf d′ q .lines

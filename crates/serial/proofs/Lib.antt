@@ -13,4 +13,5 @@ pub mod Events
 pub mod Drawing
 pub mod Exchange
 pub mod Recordings
+pub mod Editions
 pub mod Premises

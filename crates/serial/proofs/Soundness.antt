@@ -2,19 +2,19 @@
 use Prim.Native.Nat.{ℕ, _+_, _-_, _*_, _/_, _%_, _^_, _≤_, _<_}
 use mathlib.Core.Path.{_≡_, refl, sym, ap, _∙_}
 use mathlib.Core.Bool.{Bool, true, false, not, _&&_, _||_}
-use mathlib.Core.Logic.{inr}
+use mathlib.Core.Logic.{_⊎_, inl, inr}
 use native.Mathlib.Omega.{arith}
 use native.Mathlib.Nat.{mod-le}
 use lib.Dec.{ltb, leb, eqb}
-use borrow.Author.Tests.{ltb-true, leb-true, leb-false, eqb-true, lt-ltb, le-leb, not-false}
+use borrow.Author.Tests.{ltb-true, leb-true, leb-false, eqb-true, lt-ltb, le-leb}
 use Rattle.registers.specs.Time.{slots}
 use Rattle.registers.specs.Choose.{pick}
 use Rattle.registers.specs.Bits.{bitAt}
-use Rattle.registers.proofs.Picks.{pick-yes, pick-no, pick-both, and-left, and-right, and-both, and-off, not-elim}
+use Rattle.registers.proofs.Picks.{pick-yes, pick-no, pick-both, and-left, and-right, and-both, or-right, not-elim}
 use Rattle.registers.specs.Model.{Model}
 use Rattle.registers.specs.Settings.{formatOf, bitsOf, divisorOf, enabledOf, settingsOf}
 use Rattle.registers.specs.Access.{writeModel, readModel}
-use Rattle.registers.proofs.Accesses.{SameBounds, control-read, bounds-write}
+use Rattle.registers.proofs.Accesses.{SameBounds, control-read, bounds-write, edition-write}
 use Rattle.registers.specs.Transfer.{waitingOf, nextWord, takeWord, receiveWord}
 use Rattle.registers.specs.Sound.{soundRegisters, registersFit}
 use Rattle.registers.proofs.Soundness.{ControlFacts, Enables, divisor-positive, divisor-most, bits-most}
@@ -24,13 +24,13 @@ use Rattle.registers.specs.declared.settings.Format.{Format}
 use Rattle.registers.specs.declared.settings.Format.the-variants.{Motorola, Ti, Microwire, Reserved}
 use Rattle.registers.specs.declared.settings.Settings.{Settings}
 use Rattle.frames.specs.Bits.{shiftedIn}
-use Rattle.frames.specs.Engine.{clearShift, cleared, withShift, withFrame, withSlot, loaded, started, driven, quieted, capturedOf, completes, noWord, captureStep}
+use Rattle.frames.specs.Engine.{activeOf, clearShift, cleared, withShift, withFrame, withSlot, offered, loaded, started, driven, quieted, capturedOf, completes, noWord, captureStep}
 use Rattle.frames.specs.Slots.{motorolaEvent, tiEvent, microwireEvent, eventOn, eventOf, lastOn, lastSlot, widthOf, captureOn, captureWidth}
 use Rattle.frames.specs.Lines.{masterTxd}
 use Rattle.frames.specs.Master.{joinedShift, act, resting, acting, dataBit, masterStep, ticked, masterEnd}
 use Rattle.serial.specs.Slave.{slaveTake, selectedOf, motorolaSelect, captureEdge, driveEdge, motorolaClock, motorolaEdges, motorolaSlave, withMark, tiFalls, tiRises, clockFalls, clockRises, tiSlave, ready, dataOver, dataRises, controlLeft, microwireRises, microwireFalls, microwireEdges, microwireSlave, slaveOn, slaveStep, endedOn, wordOver, slaveEnd}
-use Rattle.serial.specs.Cycle.{DeviceModel, resetDevice, stepOf, endOf, deviceStep, cycleOf, activeDevice}
-use Rattle.serial.proofs.Cycles.{step-keeps, control-cycle, step-stopped, cycle-stopped}
+use Rattle.serial.specs.Cycle.{DeviceModel, resetDevice, stepOf, tickOf, endOf, deviceStep, cycleOf, activeDevice}
+use Rattle.serial.proofs.Cycles.{step-keeps, control-cycle, active-on, active-idle, step-stopped, cycle-stopped}
 use Rattle.serial.specs.Access.{readDevice, engineAfter, writeDevice}
 use Rattle.serial.specs.Sound.{stoppedSound, runningSound, engineSound, soundDevice, deviceFits}
 use Rattle.frames.specs.declared.engine.Shift.{Shift}
@@ -162,13 +162,17 @@ module _ (F : Type 0) (s : Settings) where
 
   -- The master -----------------------------------------------------------------------------------------------------
 
+  -- zeros, or a word that fits
+  offered-fits : (may : Bool) (next : ℕ) → (F → next < 0x10000) → F → offered may next < 0x10000
+  offered-fits may next n f = pick-both (λ (x : ℕ). x < 0x10000) may _ _ (λ _. n f) (λ _. omega arith)
+
   step-act : (e : Engine) (waiting : Bool) (next : ℕ) (bit : Bool) (v : Event) → EngineFacts F s e → (F → next < 0x10000) → Lands (lastSlot s .0) v → StepFacts F s (act s e waiting next bit v)
   step-act e waiting next bit Begin t n l = record {
-    engine = record { slot = t .slot; elapsed = t .elapsed; shift = shift-loaded F (captureWidth s) next n };
+    engine = record { slot = t .slot; elapsed = t .elapsed; shift = shift-loaded F (captureWidth s) (offered (s .enabled) next) (offered-fits (s .enabled) next n) };
     word = omega arith;
   }
   step-act e waiting next bit BeginDrive t n l = record {
-    engine = record { slot = t .slot; elapsed = t .elapsed; shift = shift-started F (captureWidth s) (widthOf s) next n };
+    engine = record { slot = t .slot; elapsed = t .elapsed; shift = shift-started F (captureWidth s) (widthOf s) (offered (s .enabled) next) (offered-fits (s .enabled) next n) };
     word = omega arith;
   }
   step-act e waiting next bit (Drive i) t n l = step-drive i (widthOf s) e t
@@ -217,7 +221,7 @@ module _ (F : Type 0) (s : Settings) where
   step-take : (e : Engine) (may : Bool) (next : ℕ) → EngineFacts F s e → (F → next < 0x10000) → StepFacts F s (slaveTake s e may next)
   step-take e may next t n =
       record {
-        engine = record { slot = t .slot; elapsed = t .elapsed; shift = shift-started F (captureWidth s) (s .bits) (pick may next 0) (λ f. pick-both (λ (x : ℕ). x < 0x10000) may _ _ (λ _. n f) (λ _. omega arith)) };
+        engine = record { slot = t .slot; elapsed = t .elapsed; shift = shift-started F (captureWidth s) (s .bits) (offered may next) (offered-fits may next n) };
         word = omega arith;
       }
 
@@ -394,22 +398,25 @@ fits-both d m t =
     (and-both _ _ (and-both _ _ (and-both _ _ (lt-ltb _ _ (t .slot)) (lt-ltb _ _ (t .elapsed))) (lt-ltb _ _ (t .captured)))
     (and-both _ _ (lt-ltb _ _ (t .sending)) (lt-ltb _ _ (t .receiving))))
 
--- an engine is active where SSE is 1
-pub sound-registers : (d : DeviceModel) → soundDevice d ≡ true → soundRegisters (d .registers) (enabledOf (d .registers .control)) ≡ true
-unfolding soundDevice settingsOf
-sound-registers d h = and-left (soundRegisters (d .registers) (enabledOf (d .registers .control))) _ h
+pub sound-registers : (d : DeviceModel) → soundDevice d ≡ true → soundRegisters (d .registers) (activeDevice d) ≡ true
+unfolding soundDevice
+sound-registers d h = and-left (soundRegisters (d .registers) (activeDevice d)) _ h
 
 pub sound-engine : (d : DeviceModel) → soundDevice d ≡ true → engineSound (settingsOf (d .registers .control)) (d .engine) ≡ true
 unfolding soundDevice
 sound-engine d h = and-right (soundRegisters (d .registers) (activeDevice d)) _ h
 
-sound-both : (d : DeviceModel) → soundRegisters (d .registers) (enabledOf (d .registers .control)) ≡ true → engineSound (settingsOf (d .registers .control)) (d .engine) ≡ true → soundDevice d ≡ true
-unfolding soundDevice settingsOf
+sound-both : (d : DeviceModel) → soundRegisters (d .registers) (activeDevice d) ≡ true → engineSound (settingsOf (d .registers .control)) (d .engine) ≡ true → soundDevice d ≡ true
+unfolding soundDevice
 sound-both d m e = and-both _ _ m e
 
--- an enabled device's engine
-pub device-elim : (d : DeviceModel) → soundDevice d ≡ true → enabledOf (d .registers .control) ≡ true → EngineFacts (deviceFits d ≡ true) (settingsOf (d .registers .control)) (d .engine)
-unfolding engineSound runningSound settingsOf
+-- the control registers, as far as SSE asks for it
+enabled-facts : (m : Model) (active : Bool) → Enables (m .control) active → soundRegisters m active ≡ true → ControlFacts (m .control) (enabledOf (m .control))
+enabled-facts m active on h = file.sound-elim m (enabledOf (m .control)) (file.sound-active m active (enabledOf (m .control)) on h) .control
+
+-- an active device's engine
+pub device-elim : (d : DeviceModel) → soundDevice d ≡ true → activeDevice d ≡ true → EngineFacts (deviceFits d ≡ true) (settingsOf (d .registers .control)) (d .engine)
+unfolding engineSound runningSound
 device-elim d h k =
     let s = settingsOf (d .registers .control) in
     let r : runningSound s (d .engine) ≡ true = sym (pick-yes _ _ k) ∙ sound-engine d h in
@@ -424,13 +431,13 @@ device-elim d h k =
       };
     }
 
--- a device's engine with SSE clear
-stopped : (d : DeviceModel) → soundDevice d ≡ true → enabledOf (d .registers .control) ≡ false → stoppedSound (d .engine) ≡ true
-unfolding engineSound settingsOf
+-- a device's engine that is not active
+pub stopped : (d : DeviceModel) → soundDevice d ≡ true → activeDevice d ≡ false → stoppedSound (d .engine) ≡ true
+unfolding engineSound
 stopped d h k = sym (pick-no _ _ k) ∙ sound-engine d h
 
-running-sound : (c : Control) (e : Engine) → enabledOf c ≡ true → runningSound (settingsOf c) e ≡ true → engineSound (settingsOf c) e ≡ true
-unfolding engineSound settingsOf
+running-sound : (c : Control) (e : Engine) → activeOf (settingsOf c) e ≡ true → runningSound (settingsOf c) e ≡ true → engineSound (settingsOf c) e ≡ true
+unfolding engineSound
 running-sound c e k h = pick-yes _ _ k ∙ h
 
 -- a stopped engine is sound whatever the control registers say
@@ -438,10 +445,10 @@ stopped-sound : (c : Control) (e : Engine) → ControlFacts c (enabledOf c) → 
 unfolding engineSound settingsOf
 stopped-sound c e t h =
     let z = stopped-elim e h in
-    pick-both (λ (x : Bool). x ≡ true) (enabledOf c) _ _
+    pick-both (λ (x : Bool). x ≡ true) (activeOf (settingsOf c) e) _ _
     (λ k. running-intro ⊥ (settingsOf c) e (record {
       slot = let p = z .slot in omega arith;
-      elapsed = let p = z .elapsed in let q = divisor-positive c (enabledOf c) t k in omega arith;
+      elapsed = let p = z .elapsed in let q = divisor-positive c (enabledOf c) t (sym (active-idle c e (z .frame)) ∙ k) in omega arith;
       shift = record { captured = let p = z .captured in omega arith; sending = λ f. absurd f; receiving = λ f. absurd f };
     }))
     (λ _. h)
@@ -455,72 +462,113 @@ cleared-fit = record { slot = omega arith; elapsed = omega arith; captured = ome
 
 -- Reset and accesses -------------------------------------------------------------------------------------------------
 
-reset-registers : soundRegisters (resetDevice .registers) (enabledOf (resetDevice .registers .control)) ≡ true
-unfolding enabledOf
-reset-registers = file.sound-reset
+reset-registers : (edition2 : Bool) → soundRegisters (resetDevice edition2 .registers) (activeDevice (resetDevice edition2)) ≡ true
+unfolding settingsOf enabledOf
+reset-registers edition2 = file.sound-reset edition2
 
-pub sound-reset : soundDevice resetDevice ≡ true
-sound-reset = sound-both resetDevice reset-registers (cleared-sound _ (file.sound-elim _ _ reset-registers .control))
+pub sound-reset : (edition2 : Bool) → soundDevice (resetDevice edition2) ≡ true
+sound-reset edition2 =
+    let d = resetDevice edition2 in
+    sound-both d (reset-registers edition2) (cleared-sound _ (enabled-facts (d .registers) (activeDevice d) (active-on _ cleared) (reset-registers edition2)))
 
-pub fits-reset : deviceFits resetDevice ≡ true
-fits-reset = fits-both resetDevice file.fits-reset cleared-fit
+pub fits-reset : (edition2 : Bool) → deviceFits (resetDevice edition2) ≡ true
+fits-reset edition2 = fits-both (resetDevice edition2) (file.fits-reset edition2) cleared-fit
 
 pub sound-read : (d : DeviceModel) (o : ℕ) → soundDevice d ≡ true → soundDevice (readDevice d o) ≡ true
 unfolding readDevice
 sound-read d o h =
     let m = d .registers in
-    sound-both _ (ap (λ (c : Control). soundRegisters (readModel m o) (enabledOf c)) (control-read m o) ∙ file.sound-read m (enabledOf (m .control)) o (λ e. e) (sound-registers d h))
+    sound-both _ (ap (λ (c : Control). soundRegisters (readModel m o) (activeOf (settingsOf c) (d .engine))) (control-read m o) ∙ file.sound-read m (activeDevice d) o (active-on _ (d .engine)) (sound-registers d h))
     (ap (λ (c : Control). engineSound (settingsOf c) (d .engine)) (control-read (d .registers) o) ∙ sound-engine d h)
 
 pub fits-read : (d : DeviceModel) (o : ℕ) → deviceFits d ≡ true → deviceFits (readDevice d o) ≡ true
 unfolding readDevice
 fits-read d o h = fits-both _ (file.fits-read (d .registers) o (fits-registers d h)) (engine-fit d h)
 
--- A write that leaves SSE set leaves all that a running engine's soundness hangs on.
-written-sound : (m n : Model) (e : Engine) → ControlFacts (n .control) (enabledOf (n .control)) → SameBounds m n → enabledOf (m .control) ≡ true → enabledOf (n .control) ≡ true
-    → engineSound (settingsOf (m .control)) e ≡ true → engineSound (settingsOf (n .control)) e ≡ true
+-- A write while the engine is active leaves all that its bounds hang on.
+written-runs : (m n : Model) (e : Engine) → SameBounds m n → activeOf (settingsOf (m .control)) e ≡ true → engineSound (settingsOf (m .control)) e ≡ true → runningSound (settingsOf (n .control)) e ≡ true
 unfolding engineSound runningSound settingsOf divisorOf lastSlot
-written-sound m n e t same k l h =
-    pick-yes _ _ l ∙ rw (same .cr0, same .cpsr, same .role) (sym (pick-yes _ _ k) ∙ h)
+written-runs m n e same k h = rw (same .cr0, same .cpsr, same .role) (sym (pick-yes _ _ k) ∙ h)
+
+-- the engine after a write is the one before it or clear
+after-either : (P : Engine → Type 0) (m n : Model) (e : Engine) → (enabledOf (m .control) ≡ false → P e) → (activeOf (settingsOf (n .control)) e ≡ true → P e) → P cleared → P (engineAfter m n e)
+unfolding engineAfter
+after-either P m n e off on z = pick-both P (enabledOf (m .control)) _ _ (λ _. pick-both P (activeOf (settingsOf (n .control)) e) _ _ on (λ _. z)) off
+
+-- a frame in progress with SSE clear was so before the write
+active-before : (m n : Model) (e : Engine) → n .control .edition2 ≡ m .control .edition2 → activeOf (settingsOf (n .control)) e ≡ true → (activeOf (settingsOf (m .control)) e ≡ true) ⊎ (enabledOf (n .control) ≡ true)
+unfolding settingsOf
+active-before m n e same k = go (enabledOf (n .control)) refl
+  where
+    go : (x : Bool) → enabledOf (n .control) ≡ x → (activeOf (settingsOf (m .control)) e ≡ true) ⊎ (enabledOf (n .control) ≡ true)
+    go true y = inr y
+    go false y = inl (or-right (enabledOf (m .control)) _ (ap (λ (t : Bool). e .frame && t) (sym same) ∙ sym (ap (λ (t : Bool). t || (e .frame && n .control .edition2)) y) ∙ k))
+
+-- and with SSE clear it goes on
+active-after : (m n : Model) (e : Engine) → n .control .edition2 ≡ m .control .edition2 → enabledOf (m .control) ≡ false → activeOf (settingsOf (m .control)) e ≡ true → activeOf (settingsOf (n .control)) e ≡ true
+unfolding settingsOf
+active-after m n e same off k =
+    or-right (enabledOf (n .control)) _ (ap (λ (t : Bool). e .frame && t) same ∙ sym (ap (λ (t : Bool). t || (e .frame && m .control .edition2)) off) ∙ k)
+
+module _ (d : DeviceModel) (o v : ℕ) where
+  -- the register file after the write
+  abbrev written : Model
+  written = writeModel (d .registers) (activeDevice d) o v
+
+  same-edition : writeModel (d .registers) (activeDevice d) o v .control .edition2 ≡ d .registers .control .edition2
+  same-edition = edition-write (d .registers) (activeDevice d) o v
+
+  becomes-active : activeDevice (writeDevice d o v) ≡ true → (activeDevice d ≡ true) ⊎ (enabledOf (written .control) ≡ true)
+  unfolding writeDevice
+  becomes-active =
+      after-either (λ (e : Engine). activeOf (settingsOf (written .control)) e ≡ true → (activeDevice d ≡ true) ⊎ (enabledOf (written .control) ≡ true)) (d .registers) written (d .engine)
+      (λ _ k. active-before (d .registers) written (d .engine) same-edition k)
+      (λ _ k. active-before (d .registers) written (d .engine) same-edition k)
+      (λ k. inr (sym (active-idle (written .control) cleared refl) ∙ k))
+
+  registers-write : soundDevice d ≡ true → soundRegisters written (activeDevice (writeDevice d o v)) ≡ true
+  unfolding writeDevice
+  registers-write h =
+      file.sound-write (d .registers) (activeDevice d) (activeDevice (writeDevice d o v)) o v (active-on _ (d .engine)) (sound-registers d h) becomes-active (active-on _ (writeDevice d o v .engine))
+
+  engine-write : soundDevice d ≡ true → engineSound (settingsOf (written .control)) (writeDevice d o v .engine) ≡ true
+  unfolding writeDevice
+  engine-write h = go (activeDevice d) refl
+    where
+      Holds : Engine → Type 0
+      Holds e = engineSound (settingsOf (written .control)) e ≡ true
+
+      facts : ControlFacts (written .control) (enabledOf (written .control))
+      facts = enabled-facts written (activeDevice (writeDevice d o v)) (active-on _ (writeDevice d o v .engine)) (registers-write h)
+
+      go : (x : Bool) → activeDevice d ≡ x → Holds (engineAfter (d .registers) written (d .engine))
+      go true k =
+          let r = written-runs (d .registers) written (d .engine) (bounds-write (d .registers) (activeDevice d) o v k) k (sound-engine d h) in
+          after-either Holds (d .registers) written (d .engine)
+          (λ off. running-sound (written .control) (d .engine) (active-after (d .registers) written (d .engine) same-edition off k) r)
+          (λ on. running-sound (written .control) (d .engine) on r)
+          (cleared-sound (written .control) facts)
+      go false k =
+          let z = stopped-sound (written .control) (d .engine) facts (stopped d h k) in
+          after-either Holds (d .registers) written (d .engine) (λ _. z) (λ _. z) (cleared-sound (written .control) facts)
 
 pub sound-write : (d : DeviceModel) (o v : ℕ) → soundDevice d ≡ true → soundDevice (writeDevice d o v) ≡ true
-unfolding writeDevice engineAfter settingsOf
-sound-write d o v h =
-    let m = d .registers in
-    let n = writeModel m (enabledOf (m .control)) o v in
-    let r = file.sound-write m (enabledOf (m .control)) (enabledOf (n .control)) o v (λ e. e) (sound-registers d h) (λ e. inr e) (λ e. e) in
-    let t = file.sound-elim n (enabledOf (n .control)) r .control in
-    sound-both _ r
-    (pick-both (λ (e : Engine). engineSound (settingsOf (n .control)) e ≡ true) (enabledOf (m .control) && not (enabledOf (n .control))) _ _
-    (λ _. cleared-sound (n .control) t)
-    (λ k. go (enabledOf (m .control)) refl t k))
-  where
-    on : Bool
-    on = enabledOf (d .registers .control)
-
-    n : Model
-    n = writeModel (d .registers) on o v
-
-    go : (x : Bool) → on ≡ x → ControlFacts (n .control) (enabledOf (n .control)) → (on && not (enabledOf (n .control))) ≡ false → engineSound (settingsOf (n .control)) (d .engine) ≡ true
-    go true e t k =
-        written-sound (d .registers) n (d .engine) t (bounds-write (d .registers) on o v e) e
-        (not-false _ (and-off on _ k e)) (sound-engine d h)
-    go false e t k = stopped-sound (n .control) (d .engine) t (stopped d h e)
+unfolding writeDevice
+sound-write d o v h = sound-both (writeDevice d o v) (registers-write d o v h) (engine-write d o v h)
 
 pub fits-write : (d : DeviceModel) (o v : ℕ) → deviceFits d ≡ true → deviceFits (writeDevice d o v) ≡ true
-unfolding writeDevice engineAfter
+unfolding writeDevice
 fits-write d o v h =
     fits-both _ (file.fits-write (d .registers) (activeDevice d) o v (fits-registers d h))
-    (pick-both (λ (e : Engine). EngineFit e) (enabledOf (d .registers .control) && not (enabledOf (writeModel (d .registers) (activeDevice d) o v .control))) _ _
-    (λ _. cleared-fit) (λ _. engine-fit d h))
+    (after-either EngineFit (d .registers) (writeModel (d .registers) (activeDevice d) o v) (d .engine) (λ _. engine-fit d h) (λ _. engine-fit d h) cleared-fit)
 
 -- A cycle ------------------------------------------------------------------------------------------------------------
 
-registers-cycle : (d : DeviceModel) (pins : Pins) → soundRegisters (d .registers) (enabledOf (d .registers .control)) ≡ true → soundRegisters (cycleOf d pins .registers) (enabledOf (d .registers .control)) ≡ true
+registers-cycle : (d : DeviceModel) (pins : Pins) → soundDevice d ≡ true → soundRegisters (cycleOf d pins .registers) (activeDevice d) ≡ true
 unfolding cycleOf takeWord receiveWord
 registers-cycle d pins h =
-    let a = enabledOf (d .registers .control) in
-    let k = step-keeps (λ (x : Model). (Enables (x .control) a) × (soundRegisters x a ≡ true)) (d .registers) (deviceStep d pins) (λ x k. (k .0, file.sound-take x a (k .1))) (λ x k. (k .0, file.sound-receive x a (deviceStep d pins .word) (k .1))) ((λ e. e), h) in
+    let a = activeDevice d in
+    let k = step-keeps (λ (x : Model). (Enables (x .control) a) × (soundRegisters x a ≡ true)) (d .registers) (deviceStep d pins) (λ x k. (k .0, file.sound-take x a (k .1))) (λ x k. (k .0, file.sound-receive x a (deviceStep d pins .word) (k .1))) (active-on _ (d .engine), sound-registers d h) in
     file.sound-end _ a _ (k .0) (k .1)
 
 fits-registers-cycle : (d : DeviceModel) (pins : Pins) → deviceStep d pins .word < 0x10000 → registersFit (d .registers) ≡ true → registersFit (cycleOf d pins .registers) ≡ true
@@ -529,37 +577,57 @@ fits-registers-cycle d pins w h =
     file.fits-end _ _
     (step-keeps (λ (x : Model). registersFit x ≡ true) (d .registers) (deviceStep d pins) file.fits-take (λ x k. file.fits-receive x (deviceStep d pins .word) w k) h)
 
-step-enabled : (d : DeviceModel) (pins : Pins) → soundDevice d ≡ true → enabledOf (d .registers .control) ≡ true → StepFacts (deviceFits d ≡ true) (settingsOf (d .registers .control)) (deviceStep d pins)
+step-active : (d : DeviceModel) (pins : Pins) → soundDevice d ≡ true → activeDevice d ≡ true → StepFacts (deviceFits d ≡ true) (settingsOf (d .registers .control)) (deviceStep d pins)
 unfolding deviceStep stepOf
-step-enabled d pins h k =
+step-active d pins h k =
     let F = deviceFits d ≡ true in
     let s = settingsOf (d .registers .control) in
     let t = device-elim d h k in
     let n : F → nextWord (d .registers) < 0x10000 = λ f. file.next-fits (d .registers) (file.fits-elim (d .registers) (fits-registers d f) .tx) in
-    step-pick F s (s .enabled) _ _
+    step-pick F s (activeDevice d) _ _
     (step-pick F s (s .slave) _ _
     (step-slave F s (d .engine) (d .pins .oldest) (d .pins .middle) (nextWord (d .registers)) t n)
     (step-master F s (d .engine) (waitingOf (d .registers)) (nextWord (d .registers)) (pins .rxd) t n))
     (step-none F s cleared (engine-cleared F s (d .engine) t))
 
-cycle-enabled : (d : DeviceModel) (pins : Pins) → soundDevice d ≡ true → enabledOf (d .registers .control) ≡ true → EngineFacts (deviceFits d ≡ true) (settingsOf (d .registers .control)) (cycleOf d pins .engine)
-unfolding cycleOf endOf
-cycle-enabled d pins h k =
+cycle-active : (d : DeviceModel) (pins : Pins) → soundDevice d ≡ true → activeDevice d ≡ true → EngineFacts (deviceFits d ≡ true) (settingsOf (d .registers .control)) (cycleOf d pins .engine)
+unfolding cycleOf endOf tickOf
+cycle-active d pins h k =
     let F = deviceFits d ≡ true in
     let s = settingsOf (d .registers .control) in
-    let t = step-enabled d pins h k .engine in
-    engine-pick F s (s .slave) _ _ (λ _. end-slave F s (deviceStep d pins .engine) t) (λ _. end-master F s (deviceStep d pins .engine) t)
+    let t = step-active d pins h k .engine in
+    engine-pick F s (activeOf s (tickOf s (deviceStep d pins .engine))) _ _
+    (λ _. engine-pick F s (s .slave) _ _ (λ _. end-slave F s (deviceStep d pins .engine) t) (λ _. end-master F s (deviceStep d pins .engine) t))
+    (λ _. engine-cleared F s (deviceStep d pins .engine) t)
+
+-- at its end the engine is active or clear
+end-either : (P : Engine → Type 0) (s : Settings) (e : Engine) → (activeOf s (endOf s e) ≡ true → P (endOf s e)) → P cleared → P (endOf s e)
+unfolding endOf
+end-either P s e = pick-both (λ (x : Engine). (activeOf s x ≡ true → P x) → P cleared → P x) (activeOf s (tickOf s e)) _ _ (λ k f _. f k) (λ _ _ z. z)
 
 pub sound-cycle : (d : DeviceModel) (pins : Pins) → soundDevice d ≡ true → soundDevice (cycleOf d pins) ≡ true
+unfolding cycleOf
 sound-cycle d pins h =
-    sound-both (cycleOf d pins) (ap (λ (c : Control). soundRegisters (cycleOf d pins .registers) (enabledOf c)) (control-cycle d pins) ∙ registers-cycle d pins (sound-registers d h))
-    (ap (λ (c : Control). engineSound (settingsOf c) (cycleOf d pins .engine)) (control-cycle d pins) ∙ go (enabledOf (d .registers .control)) refl)
+    sound-both (cycleOf d pins) (file.sound-active (cycleOf d pins .registers) (activeDevice d) (activeDevice (cycleOf d pins)) was-active (registers-cycle d pins h))
+    (ap (λ (c : Control). engineSound (settingsOf c) (cycleOf d pins .engine)) (control-cycle d pins) ∙ go (activeDevice d) refl)
   where
-    go : (x : Bool) → enabledOf (d .registers .control) ≡ x → engineSound (settingsOf (d .registers .control)) (cycleOf d pins .engine) ≡ true
-    go true k = running-sound (d .registers .control) _ k (running-intro _ _ _ (cycle-enabled d pins h k))
-    go false k =
-        ap (λ (e : Engine). engineSound (settingsOf (d .registers .control)) e) (cycle-stopped d pins k)
-        ∙ cleared-sound (d .registers .control) (file.sound-elim (d .registers) (enabledOf (d .registers .control)) (sound-registers d h) .control)
+    facts : ControlFacts (d .registers .control) (enabledOf (d .registers .control))
+    facts = enabled-facts (d .registers) (activeDevice d) (active-on _ (d .engine)) (sound-registers d h)
+
+    -- an engine that is active at the end was so before
+    still : (x : Bool) → activeDevice d ≡ x → activeOf (settingsOf (d .registers .control)) (cycleOf d pins .engine) ≡ true → activeDevice d ≡ true
+    still true k e = k
+    still false k e = active-on (d .registers .control) (d .engine) (sym (active-idle (d .registers .control) (cycleOf d pins .engine) (ap (λ (x : Engine). x .frame) (cycle-stopped d pins k))) ∙ e)
+
+    was-active : activeDevice (cycleOf d pins) ≡ true → activeDevice d ≡ true
+    was-active e = still (activeDevice d) refl (sym (ap (λ (c : Control). activeOf (settingsOf c) (cycleOf d pins .engine)) (control-cycle d pins)) ∙ e)
+
+    go : (x : Bool) → activeDevice d ≡ x → engineSound (settingsOf (d .registers .control)) (cycleOf d pins .engine) ≡ true
+    go true k =
+        end-either (λ (e : Engine). engineSound (settingsOf (d .registers .control)) e ≡ true) (settingsOf (d .registers .control)) (deviceStep d pins .engine)
+        (λ a. running-sound (d .registers .control) _ a (running-intro _ _ _ (cycle-active d pins h k)))
+        (cleared-sound (d .registers .control) facts)
+    go false k = ap (λ (e : Engine). engineSound (settingsOf (d .registers .control)) e) (cycle-stopped d pins k) ∙ cleared-sound (d .registers .control) facts
 
 -- a running engine within its bounds has room in the bytes
 last-most : (f : Format) (b : ℕ) → b ≤ 16 → lastOn f b ≤ 52
@@ -589,11 +657,11 @@ running-fit F c e p t f =
     }
 
 pub fits-cycle : (d : DeviceModel) (pins : Pins) → soundDevice d ≡ true → deviceFits d ≡ true → deviceFits (cycleOf d pins) ≡ true
-fits-cycle d pins h f = go (enabledOf (d .registers .control)) refl
+fits-cycle d pins h f = go (activeDevice d) refl
   where
-    go : (x : Bool) → enabledOf (d .registers .control) ≡ x → deviceFits (cycleOf d pins) ≡ true
+    go : (x : Bool) → activeDevice d ≡ x → deviceFits (cycleOf d pins) ≡ true
     go true k =
-        fits-both (cycleOf d pins) (fits-registers-cycle d pins (step-enabled d pins h k .word) (fits-registers d f))
-        (running-fit _ (d .registers .control) _ (file.fits-elim (d .registers) (fits-registers d f) .cpsr) (cycle-enabled d pins h k) f)
+        fits-both (cycleOf d pins) (fits-registers-cycle d pins (step-active d pins h k .word) (fits-registers d f))
+        (running-fit _ (d .registers .control) _ (file.fits-elim (d .registers) (fits-registers d f) .cpsr) (cycle-active d pins h k) f)
     go false k =
         fits-both (cycleOf d pins) (fits-registers-cycle d pins (rw (step-stopped d pins k) (omega arith)) (fits-registers d f)) (rw (cycle-stopped d pins k) cleared-fit)

@@ -12,11 +12,11 @@ use Rattle.registers.specs.Settings.{settingsOf}
 use Rattle.registers.specs.Transfer.{rest, waitingOf, nextWord}
 use Rattle.registers.specs.declared.Control.{Control}
 use Rattle.registers.specs.declared.settings.Settings.{Settings}
-use Rattle.frames.specs.Engine.{cleared, driven, capturedOf, captureStep, noWord, withShift, withSelected}
+use Rattle.frames.specs.Engine.{activeOf, cleared, whileActive, driven, capturedOf, captureStep, noWord, withShift, withSelected}
 use Rattle.frames.specs.Slots.{eventOf, lastSlot, captureWidth}
 use Rattle.frames.specs.Lines.{masterLines, linesOf, masterTxd}
 use Rattle.frames.specs.Master.{joinedShift, act, resting, acting, dataBit, masterStep, ticked, masterEnd}
-use Rattle.serial.specs.Cycle.{DeviceModel, stepOf, endOf, deviceStep, cycleOf}
+use Rattle.serial.specs.Cycle.{DeviceModel, activeDevice, stepOf, tickOf, endOf, deviceStep, cycleOf}
 use Rattle.serial.proofs.Cycles.{control-cycle, tx-cycle, waits}
 use Rattle.frames.specs.declared.engine.Shift.{Shift}
 use Rattle.frames.specs.declared.engine.Engine.{Engine}
@@ -79,6 +79,9 @@ end-unreceived s e =
     (pick-under withoutReceived (ltb (e .elapsed .0 + 1) (s .divisor .0)) _ _ _ _ refl
     (pick-under withoutReceived (ltb (e .slot .0) (lastSlot s .0)) _ _ _ _ refl refl))
 
+while-unreceived : (s : Settings) (e : Engine) → withoutReceived (whileActive s e) ≡ whileActive s (withoutReceived e)
+while-unreceived s e = pick-under withoutReceived (activeOf s e) _ _ _ _ refl refl
+
 -- A cycle --------------------------------------------------------------------------------------------------------------
 
 -- MS is 0.
@@ -90,7 +93,7 @@ masters-cycle d pins k = ap (λ (c : Control). settingsOf c .slave) (control-cyc
 
 -- A master's step, by its settings, its words to send and its engine.
 unfoldable pub sendStep : Settings → List ℕ → Engine → Step
-sendStep s tx e = stepWithoutReceived (pick (s .enabled) (masterStep s e (s .enabled && waits tx) (getD tx 0 0) false) (noWord cleared))
+sendStep s tx e = stepWithoutReceived (pick (activeOf s e) (masterStep s e (s .enabled && waits tx) (getD tx 0 0) false) (noWord cleared))
 
 abbrev pub sendOf : DeviceModel → Step
 sendOf d = sendStep (settingsOf (d .registers .control)) (d .registers .tx) (withoutReceived (d .engine))
@@ -99,7 +102,7 @@ module _ (d : DeviceModel) (pins : Pins) (k : Masters d) where
   step-sends : stepWithoutReceived (deviceStep d pins) ≡ sendOf d
   unfolding sendStep deviceStep stepOf waitingOf nextWord settingsOf
   step-sends =
-      pick-alike stepWithoutReceived (settingsOf (d .registers .control) .enabled) _ _ _ _
+      pick-alike stepWithoutReceived (activeDevice d) _ _ _ _
       (ap stepWithoutReceived (pick-no _ _ k) ∙ step-unreceived (settingsOf (d .registers .control)) (d .engine) (waitingOf (d .registers)) (nextWord (d .registers)) (pins .rxd) false)
       refl
 
@@ -109,11 +112,12 @@ module _ (d : DeviceModel) (pins : Pins) (k : Masters d) where
   unfolding cycleOf linesOf masterLines masterTxd
   lines-sends = pick-no _ _ k ∙ ap (λ (r : Step). masterLines (settingsOf (d .registers .control)) (r .engine)) step-sends
 
-  pub engine-sends : withoutReceived (cycleOf d pins .engine) ≡ masterEnd (settingsOf (d .registers .control)) (sendOf d .engine)
-  unfolding cycleOf endOf
+  pub engine-sends : withoutReceived (cycleOf d pins .engine) ≡ whileActive (settingsOf (d .registers .control)) (masterEnd (settingsOf (d .registers .control)) (sendOf d .engine))
+  unfolding cycleOf endOf tickOf
   engine-sends =
       let s = settingsOf (d .registers .control) in
-      ap withoutReceived (pick-no _ _ k) ∙ end-unreceived s (deviceStep d pins .engine) ∙ ap (λ (r : Step). masterEnd s (r .engine)) step-sends
+      while-unreceived s (tickOf s (deviceStep d pins .engine))
+      ∙ ap (whileActive s) (ap withoutReceived (pick-no _ _ k) ∙ end-unreceived s (deviceStep d pins .engine) ∙ ap (λ (r : Step). masterEnd s (r .engine)) step-sends)
 
   pub tx-sends : cycleOf d pins .registers .tx ≡ pick (sendOf d .takes) (rest (d .registers .tx)) (d .registers .tx)
   tx-sends = tx-cycle d pins ∙ ap (λ (r : Step). pick (r .takes) (rest (d .registers .tx)) (d .registers .tx)) step-sends

@@ -6,18 +6,18 @@ use lib.Dec.{ltb, eqb}
 use borrow.Author.Tests.{lt-ltb, le-ltb, ne-eqb}
 use Rattle.registers.specs.Choose.{pick}
 use Rattle.registers.proofs.Picks.{pick-yes, pick-no, pick-both}
-use Rattle.registers.specs.Settings.{enabledOf, settingsOf}
+use Rattle.registers.specs.Settings.{settingsOf}
 use Rattle.registers.specs.Time.{cycles, slots}
 use Rattle.registers.specs.Transfer.{waitingOf, nextWord}
 use Rattle.registers.specs.declared.Control.{Control}
 use Rattle.registers.specs.declared.settings.Settings.{Settings}
 use Rattle.registers.specs.declared.time.Cycles.{Cycles}
-use Rattle.frames.specs.Engine.{cleared, noWord, captureStep, withElapsed, withNextSlot, withFrame, withSlot}
+use Rattle.frames.specs.Engine.{activeOf, cleared, noWord, captureStep, withElapsed, withNextSlot, withFrame, withSlot}
 use Rattle.frames.specs.Slots.{eventOf, lastSlot}
 use Rattle.frames.specs.Lines.{masterLines, linesOf, masterTxd}
 use Rattle.frames.specs.Master.{act, resting, acting, dataBit, masterStep, ticked, masterEnd}
-use Rattle.serial.specs.Cycle.{DeviceModel, stepOf, endOf, deviceStep, cycleOf}
-use Rattle.serial.proofs.Cycles.{control-cycle, cycle-stopped}
+use Rattle.serial.specs.Cycle.{DeviceModel, activeDevice, stepOf, tickOf, endOf, deviceStep, cycleOf}
+use Rattle.serial.proofs.Cycles.{control-cycle}
 use Rattle.serial.proofs.Unreceived.{Masters, masters-cycle}
 use Rattle.frames.specs.declared.engine.Shift.{Shift}
 use Rattle.frames.specs.declared.engine.Engine.{Engine}
@@ -129,31 +129,42 @@ lines-end s e =
     Kept : Engine → Type 0
     Kept x = (x .elapsed .0 ≡ 0 → ⊥) → masterLines s x ≡ masterLines s e
 
+-- an engine within a slot at a cycle's end is active
+
+end-live : (s : Settings) (e : Engine) → (endOf s e .elapsed .0 ≡ 0 → ⊥) → endOf s e ≡ tickOf s e
+unfolding endOf
+end-live s e = pick-both (λ (x : Engine). (x .elapsed .0 ≡ 0 → ⊥) → x ≡ tickOf s e) (activeOf s (tickOf s e)) _ _ (λ _ _. refl) (λ _ h. absurd (h refl))
+
+end-active : (s : Settings) (e : Engine) → (endOf s e .elapsed .0 ≡ 0 → ⊥) → activeOf s (endOf s e) ≡ true
+unfolding endOf
+end-active s e = pick-both (λ (x : Engine). (x .elapsed .0 ≡ 0 → ⊥) → activeOf s x ≡ true) (activeOf s (tickOf s e)) _ _ (λ a _. a) (λ _ h. absurd (h refl))
+
+active-live : (d : DeviceModel) (pins : Pins) → (cycleOf d pins .engine .elapsed .0 ≡ 0 → ⊥) → activeDevice (cycleOf d pins) ≡ true
+unfolding cycleOf
+active-live d pins h =
+    ap (λ (c : Control). activeOf (settingsOf c) (cycleOf d pins .engine)) (control-cycle d pins) ∙ end-active (settingsOf (d .registers .control)) (deviceStep d pins .engine) h
+
 module _ (d : DeviceModel) (pins : Pins) (k : Masters d) where
   lines-master : cycleOf d pins .lines ≡ masterLines (settingsOf (d .registers .control)) (deviceStep d pins .engine)
   unfolding cycleOf linesOf
   lines-master = pick-no _ _ k
 
-  step-device : enabledOf (d .registers .control) ≡ true → (d .engine .elapsed .0 ≡ 0 → ⊥) → deviceStep d pins ≡ noWord (d .engine)
-  unfolding deviceStep stepOf settingsOf
+  step-device : activeDevice d ≡ true → (d .engine .elapsed .0 ≡ 0 → ⊥) → deviceStep d pins ≡ noWord (d .engine)
+  unfolding deviceStep stepOf
   step-device e h = pick-yes _ _ e ∙ pick-no _ _ k ∙ step-within _ (d .engine) (waitingOf (d .registers)) (nextWord (d .registers)) (pins .rxd) h
 
   lines-kept : (cycleOf d pins .engine .elapsed .0 ≡ 0 → ⊥) → masterLines (settingsOf (d .registers .control)) (cycleOf d pins .engine) ≡ cycleOf d pins .lines
-  unfolding cycleOf endOf
+  unfolding cycleOf endOf tickOf
   lines-kept h =
       let s = settingsOf (d .registers .control) in
       let e = deviceStep d pins .engine in
-      let n : cycleOf d pins .engine ≡ masterEnd s e = pick-no _ _ k in
+      let n : cycleOf d pins .engine ≡ masterEnd s e = end-live s e h ∙ pick-no _ _ k in
       ap (masterLines s) n ∙ lines-end s e (λ z. h (ap (λ (x : Engine). x .elapsed .0) n ∙ z)) ∙ sym lines-master
 
 -- While a slot lasts the lines stay.
 pub slot-lines : (d : DeviceModel) (p q : Pins) → Masters d → (cycleOf d p .engine .elapsed .0 ≡ 0 → ⊥) → cycleOf (cycleOf d p) q .lines ≡ cycleOf d p .lines
-slot-lines d p q k h = go (enabledOf (d .registers .control)) refl
-  where
-    go : (x : Bool) → enabledOf (d .registers .control) ≡ x → cycleOf (cycleOf d p) q .lines ≡ cycleOf d p .lines
-    go true e =
-        lines-master (cycleOf d p) q (masters-cycle d p k)
-        ∙ ap (λ (r : Step). masterLines (settingsOf (cycleOf d p .registers .control)) (r .engine)) (step-device (cycleOf d p) q (masters-cycle d p k) (ap enabledOf (control-cycle d p) ∙ e) h)
-        ∙ ap (λ (c : Control). masterLines (settingsOf c) (cycleOf d p .engine)) (control-cycle d p)
-        ∙ lines-kept d p k h
-    go false e = absurd (h (ap (λ (x : Engine). x .elapsed .0) (cycle-stopped d p e)))
+slot-lines d p q k h =
+    lines-master (cycleOf d p) q (masters-cycle d p k)
+    ∙ ap (λ (r : Step). masterLines (settingsOf (cycleOf d p .registers .control)) (r .engine)) (step-device (cycleOf d p) q (masters-cycle d p k) (active-live d p h) h)
+    ∙ ap (λ (c : Control). masterLines (settingsOf c) (cycleOf d p .engine)) (control-cycle d p)
+    ∙ lines-kept d p k h

@@ -1,14 +1,13 @@
 -- Register accesses to a device. They fall between cycles: pins and lines stay.
 use Prim.Native.Nat.{ℕ}
 use mathlib.Core.Path.{_≡_}
-use mathlib.Core.Bool.{not, _&&_}
 use Rattle.registers.specs.Choose.{pick}
 use Rattle.registers.specs.Offsets.{registerOf}
-use Rattle.registers.specs.Settings.{enabledOf}
+use Rattle.registers.specs.Settings.{enabledOf, settingsOf}
 use Rattle.registers.specs.Access.{readAnswer, readModel, writeRefusal, writeModel}
 use Rattle.registers.specs.Model.{Model}
 use Rattle.registers.specs.declared.access.Answer.{Answer}
-use Rattle.frames.specs.Engine.{cleared}
+use Rattle.frames.specs.Engine.{whileActive}
 use Rattle.serial.specs.Cycle.{DeviceModel, deviceOf, activeDevice, withRegisters, withEngine}
 use Rattle.frames.specs.declared.engine.Engine.{Engine}
 use Rattle.serial.specs.declared.access.Reading.{Reading}
@@ -26,11 +25,11 @@ readDevice d o = withRegisters d (readModel (d .registers) o)
 unfoldable pub writeRefusalOf : DeviceModel → ℕ → ℕ → ℕ
 writeRefusalOf d o v = writeRefusal (d .registers) (activeDevice d) (registerOf o) v
 
--- Clearing SSE ends a frame or an idle slot at once: the engine is clear.
+-- Clearing SSE ends an idle slot at once, in edition 1 a frame too: the engine is clear. In edition 2 a frame goes on. A write to a device whose SSE is clear leaves the engine, also where it sets SSE: a frame goes on from its slot.
 unfoldable pub engineAfter : Model → Model → Engine → Engine
-engineAfter old new e = pick (enabledOf (old .control) && not (enabledOf (new .control))) cleared e
+engineAfter old new e = pick (enabledOf (old .control)) (whileActive (settingsOf (new .control)) e) e
 
--- A write changes the register file, and the engine if it clears SSE; a refused one changes nothing.
+-- A write changes the register file, and clears the engine if it clears SSE and the engine is not active then; a refused one changes nothing.
 unfoldable pub writeDevice : DeviceModel → ℕ → ℕ → DeviceModel
 writeDevice d o v =
     let m = writeModel (d .registers) (activeDevice d) o v in

@@ -7,7 +7,7 @@ use Rattle.registers.specs.Model.{Model, modelOf, resetRegisters}
 use Rattle.registers.specs.Settings.{settingsOf}
 use Rattle.registers.specs.Transfer.{waitingOf, nextWord, takeWord, receiveWord, endCycle}
 use Rattle.registers.specs.declared.settings.Settings.{Settings}
-use Rattle.frames.specs.Engine.{activeOf, cleared, noWord}
+use Rattle.frames.specs.Engine.{activeOf, cleared, whileActive, noWord}
 use Rattle.frames.specs.Lines.{linesOf}
 use Rattle.frames.specs.Master.{masterStep, masterEnd}
 use Rattle.serial.specs.Slave.{slaveStep, slaveEnd}
@@ -43,11 +43,11 @@ withEngine d e = record { registers = d .registers; engine = e; pins = d .pins; 
 abbrev pub lowPins : Pins
 lowPins = record { clk = false; fss = false; rxd = false }
 
--- After reset the output is the idle one: Motorola, SPO 0.
-abbrev pub resetDevice : DeviceModel
-resetDevice =
+-- After reset, which chooses the edition, the output is the idle one: Motorola, SPO 0.
+abbrev pub resetDevice : Bool → DeviceModel
+resetDevice edition2 =
     record {
-      registers = resetRegisters;
+      registers = resetRegisters edition2;
       engine = cleared;
       pins = record { newest = lowPins; middle = lowPins; oldest = lowPins };
       lines = record { clk = false; fss = true; txd = false; released = true };
@@ -64,9 +64,13 @@ stepOf s e h pins waiting next =
     (pick (s .slave) (slaveStep s e (h .oldest) (h .middle) next) (masterStep s e waiting next (pins .rxd)))
     (noWord cleared)
 
--- The engine at the end of the cycle.
+-- What the cycle's end does: a cycle of a master's slot has gone, a slave's last capture ends its frame.
+unfoldable pub tickOf : Settings → Engine → Engine
+tickOf s e = pick (s .slave) (slaveEnd s e) (masterEnd s e)
+
+-- The engine at the end of the cycle. With SSE clear it is clear where no frame is in progress: no idle slot follows, no selection and no mark stays.
 unfoldable pub endOf : Settings → Engine → Engine
-endOf s e = pick (s .slave) (slaveEnd s e) (masterEnd s e)
+endOf s e = whileActive s (tickOf s e)
 
 -- The word taken leaves the transmit queue.
 unfoldable pub takeIf : Model → Bool → Model

@@ -7,7 +7,7 @@ use mathlib.Core.List.{List, [], _∷_, _++_, map}
 use lib.Dec.{ltb}
 use lib.ListN.{length, take, replicate}
 use Rattle.registers.specs.Time.{cycles, slots, cyclesOf}
-use Rattle.registers.specs.Settings.{settingsOf, enabledOf, permittedOf}
+use Rattle.registers.specs.Settings.{settingsOf, settingsBy, enabledOf, permittedOf}
 use Rattle.registers.specs.declared.time.Cycles.{Cycles}
 use Rattle.registers.specs.declared.time.Divisor.{Divisor}
 use Rattle.registers.specs.declared.Control.{Control}
@@ -58,7 +58,7 @@ cyclesIn (cycle ∷ xs) = suc (cyclesIn xs)
 cyclesIn (read d o ∷ xs) = cyclesIn xs
 cyclesIn (write d o v ∷ xs) = cyclesIn xs
 
--- CR0, CR1 and CPSR of a device.
+-- CR0, CR1 and CPSR of a device, with its edition, which no step changes.
 abbrev pub controlOf : Which → PairModel → Control
 controlOf master p = p .first .registers .control
 controlOf slave p = p .second .registers .control
@@ -81,7 +81,7 @@ Agree Ti x y = x ≡ y
 Agree Microwire x y = Unit {0}
 Agree Reserved x y = x ≡ y
 
--- Any two sound devices, set up and off.
+-- Any two sound devices, set up and off; each may be of either edition.
 pub record Start (p : PairModel) : Type 0 where
   pub sound-master : soundDevice (p .first) ≡ true
   pub sound-slave : soundDevice (p .second) ≡ true
@@ -103,9 +103,11 @@ pub record Start (p : PairModel) : Type 0 where
   pub straight-master : settingsOf (controlOf master p) .loopback ≡ false
   pub straight-slave : settingsOf (controlOf slave p) .loopback ≡ false
   pub output : settingsOf (controlOf slave p) .sod ≡ false
-  -- off, overrun flags clear
+  -- off, no frame in progress, overrun flags clear
   pub off-master : settingsOf (controlOf master p) .enabled ≡ false
   pub off-slave : settingsOf (controlOf slave p) .enabled ≡ false
+  pub idle-master : p .first .engine .frame ≡ false
+  pub idle-slave : p .second .engine .frame ≡ false
   pub clear-master : p .first .registers .ror ≡ false
   pub clear-slave : p .second .registers .ror ≡ false
 
@@ -187,10 +189,15 @@ Demand3 =
 
 -- The last sentence ----------------------------------------------------------------------------------------------------
 
--- The write that enables a master. The load is the transmit queue that this write leaves.
+-- The same settings in the second edition or in the first.
+abbrev pub inEdition : Bool → Settings → Settings
+inEdition edition2 s = settingsBy (s .format) (s .phase) (s .polarity) (s .bits) (s .divisor) (s .slave) (s .sod) (s .loopback) (s .enabled) edition2
+
+-- The write that enables a master with no frame in progress. The load is the transmit queue that this write leaves.
 pub record Enabling (s : Settings) (d : DeviceModel) (o v : ℕ) : Type 0 where
   pub sound : soundDevice d ≡ true
   pub clear : enabledOf (d .registers .control) ≡ false
+  pub idle : d .engine .frame ≡ false
   pub set : settingsOf (writeDevice d o v .registers .control) ≡ s
   pub enabled : s .enabled ≡ true
   pub master : s .slave ≡ false
@@ -199,11 +206,12 @@ pub record Enabling (s : Settings) (d : DeviceModel) (o v : ℕ) : Type 0 where
 abbrev pub WholeLoad : Settings → DeviceModel → List Pins → Type 0
 WholeLoad s d ps = cyclesOf (slotTotal s (length (d .registers .tx))) (s .divisor) .0 ≤ length ps
 
--- For given master settings, no frame in progress at enabling and no access after it: two loads that give the same output bytes
--- from enabling to the last idle slot, or longer, whatever the input pins carry, are equal after cutting to b bits, Microwire to 8.
+-- For given master settings, each of the two in either edition, no frame in progress at enabling and no access after it: two loads that give the
+-- same output bytes from enabling to the last idle slot, or longer, whatever the input pins carry, are equal after cutting to b bits,
+-- Microwire to 8.
 abbrev pub LastSentence : Type 0
 LastSentence =
-    (s : Settings) (d d′ : DeviceModel) (o v o′ v′ : ℕ) → Enabling s d o v → Enabling s d′ o′ v′ → (ps qs : List Pins)
+    (s : Settings) (e e′ : Bool) (d d′ : DeviceModel) (o v o′ v′ : ℕ) → Enabling (inEdition e s) d o v → Enabling (inEdition e′ s) d′ o′ v′ → (ps qs : List Pins)
     → WholeLoad s (writeDevice d o v) ps → WholeLoad s (writeDevice d′ o′ v′) qs
     → map byteOf (recording (writeDevice d o v) ps) ≡ map byteOf (recording (writeDevice d′ o′ v′) qs)
     → map (cut (widthOf s)) (writeDevice d o v .registers .tx) ≡ map (cut (widthOf s)) (writeDevice d′ o′ v′ .registers .tx)

@@ -7,4 +7,5 @@ pub mod Pair
 pub mod Drawing
 pub mod Demand3
 pub mod Recordings
+pub mod Editions
 pub mod Premises

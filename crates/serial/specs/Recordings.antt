@@ -2,6 +2,7 @@
 use Prim.{Unit}
 use Prim.Native.Nat.{ℕ, zero, suc, _/_, _%_, _^_}
 use mathlib.Core.Path.{_≡_}
+use mathlib.Core.Bool.{Bool}
 use mathlib.Core.List.{List, [], _∷_, map}
 use lib.ListN.{replicate}
 use Rattle.registers.specs.Refusals.{done}
@@ -77,9 +78,9 @@ unfoldable pub expectedAll : List Step → List Outcome
 expectedAll [] = []
 expectedAll (s ∷ ss) = expected s ∷ expectedAll ss
 
--- A row holds: from reset, its steps give what it expects.
+-- A row holds: from reset in either edition, its steps give what it expects.
 abbrev pub Holds : Row → Type 0
-Holds (P k steps) = givenAll resetDevice steps ≡ expectedAll steps
+Holds (P k steps) = (edition2 : Bool) → givenAll (resetDevice edition2) steps ≡ expectedAll steps
 
 -- Every row holds.
 abbrev pub AllHold : List Row → Type 0

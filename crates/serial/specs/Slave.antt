@@ -7,7 +7,7 @@ use Rattle.registers.specs.Time.{slots}
 use Rattle.registers.specs.declared.settings.Format.{Format}
 use Rattle.registers.specs.declared.settings.Format.the-variants.{Motorola, Ti, Microwire, Reserved}
 use Rattle.registers.specs.declared.settings.Settings.{Settings}
-use Rattle.frames.specs.Engine.{clearShift, cleared, withShift, withFrame, withSlot, started, driven, noWord, captureStep, withSelected}
+use Rattle.frames.specs.Engine.{clearShift, cleared, withShift, withFrame, withSlot, offered, started, driven, noWord, begunIf, captureStep, withSelected}
 use Rattle.frames.specs.Slots.{captureWidth}
 use Rattle.frames.specs.Lines.{differ}
 use Rattle.frames.specs.Master.{dataBit}
@@ -15,13 +15,9 @@ use Rattle.frames.specs.declared.engine.Engine.{Engine}
 use Rattle.frames.specs.declared.engine.Step.{Step}
 use Rattle.frames.specs.declared.lines.Pins.{Pins}
 
--- The word that a slave sends: the next one if it may take it, else zeros.
-abbrev pub offered : Bool → ℕ → ℕ
-offered may next = pick may next 0
-
 -- The one way in which a slave takes a word: its first bit becomes the data level, which Motorola and TI show at once, Microwire from the next fall on. It may take one while SSE is 1; where it may not, or no word waits, it sends zeros.
 abbrev pub slaveTake : Settings → Engine → Bool → ℕ → Step
-slaveTake s e may next = record { engine = withFrame e true (started (s .bits) (offered may next)); takes = may; complete = false; word = 0 }
+slaveTake s e may next = begunIf may e (started (s .bits) (offered may next))
 
 -- Motorola and TI: with c bits captured it drives bit c.
 abbrev pub slaveDrive : Settings → Engine → Step
@@ -33,7 +29,7 @@ slaveDrive s e = noWord (withShift e (driven (s .bits) (e .shift .captured) (e .
 abbrev pub selectedOf : Engine → Engine
 selectedOf e = withSelected (withFrame e false clearShift) true
 
--- A FSS fall selects; with SPH 0 the next word to send, zeros if there is none, is taken then and its first bit driven.
+-- A FSS fall selects; with SPH 0 the next word to send, zeros if there is none, is taken then, by `slaveTake`, and its first bit driven.
 unfoldable pub motorolaSelect : Settings → Engine → Bool → ℕ → Step
 motorolaSelect s e fell next =
     pick fell (pick (s .phase) (noWord (selectedOf e)) (slaveTake s (selectedOf e) (s .enabled) next)) (noWord e)
@@ -54,7 +50,7 @@ captureEdge s before seen = pick (s .phase) (toIdle s before seen) (toActive s b
 unfoldable pub driveEdge : Settings → Pins → Pins → Bool
 driveEdge s before seen = pick (s .phase) (toActive s before seen) (toIdle s before seen)
 
--- In a word: RXD captured at capture edges, bit c driven at the others. Out of a word: with SPH 1 the next word is taken at an edge to active.
+-- In a word: RXD captured at capture edges, bit c driven at the others. Out of a word: with SPH 1 the next word is taken, by `slaveTake`, at an edge to active.
 unfoldable pub motorolaClock : Settings → Engine → Bool → Bool → ℕ → Bool → Step
 motorolaClock s e captures drives next bit =
     pick (e .frame && captures) (captureStep (captureWidth s) bit e)
@@ -94,7 +90,7 @@ tiFalls s e fss bit =
     (captureStep (captureWidth s) bit (withMark e (e .mark || fss))))
     (noWord (withMark e (e .mark || fss)))
 
--- A rising edge after a mark takes the next word and drives its first bit; in a word it drives bit c.
+-- A rising edge after a mark takes the next word, by `slaveTake`, and drives its first bit; in a word it drives bit c.
 unfoldable pub tiRises : Settings → Engine → ℕ → Step
 tiRises s e next =
     pick (e .mark) (slaveTake s (withMark e false) (s .enabled) next)
@@ -143,7 +139,7 @@ dataRises s e =
 abbrev pub controlLeft : Settings → Engine → Bool
 controlLeft s e = ltb (e .shift .captured) (captureWidth s)
 
--- A rise latches a control bit, the first one of a frame begins it; with eight latched one clock passes, and its rise takes the word to send.
+-- A rise latches a control bit, the first one of a frame begins it; with eight latched one clock passes, and its rise takes the word to send; with SSE clear it takes none, and zeros are sent.
 unfoldable pub microwireRises : Settings → Engine → ℕ → Bool → Step
 microwireRises s e next bit =
     pick (leb 17 (e .slot .0)) (noWord (dataRises s e))

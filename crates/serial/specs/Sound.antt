@@ -20,7 +20,7 @@ stoppedSound e =
 unfoldable pub runningSound : Settings → Engine → Bool
 runningSound s e = (leb (e .slot .0) (lastSlot s .0) && ltb (e .elapsed .0) (s .divisor .0)) && leb (e .shift .captured) (captureWidth s)
 
--- A sound engine: within its bounds while active, with no frame and zero counts while not.
+-- A sound engine: within its bounds while active, with no frame, selection or mark and zero counts while not.
 unfoldable pub engineSound : Settings → Engine → Bool
 engineSound s e = pick (activeOf s e) (runningSound s e) (stoppedSound e)
 

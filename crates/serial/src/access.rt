@@ -27,7 +27,7 @@ pub fn read(d: Device, offset: u32) -> Reading
     Reading { answer, device }
 }
 
-// A register write; clearing SSE clears the engine.
+// A register write; clearing SSE clears an engine that is not active then.
 pub fn write(d: Device, offset: u32, value: u32) -> Written
     ensures { λ r. ⌜ Write (deviceOf d) offset value r ⌝ }
 {
@@ -36,12 +36,11 @@ pub fn write(d: Device, offset: u32, value: u32) -> Written
     let active = frames::engine::active_of(s, d.engine);
     let out = registers::access::write(d.registers, active, offset, value);
     let registers = out.registers;
-    let is = registers::settings::enabled(registers);
-    let stops = was & !is;
+    let after = registers::settings::settings_of(registers);
     let mut device = d;
     device.registers = registers;
-    if stops {
-        device.engine = frames::engine::cleared();
+    if was {
+        device.engine = frames::engine::while_active(after, d.engine);
     }
     Written {
         refusal: out.refusal,

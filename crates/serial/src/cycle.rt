@@ -1,7 +1,7 @@
 // One cycle of a device.
 ghost use mathlib.Core.Path.{_≡_};
 ghost use Rattle.registers.specs.Model.{modelOf};
-ghost use Rattle.serial.specs.Cycle.{deviceOf, stepOf, endOf, takeIf, receiveIf, cycleOf};
+ghost use Rattle.serial.specs.Cycle.{deviceOf, stepOf, tickOf, endOf, takeIf, receiveIf, cycleOf};
 use crate::Device;
 use crate::History;
 use frames::engine::Engine;
@@ -26,8 +26,9 @@ fn step_of(s: Settings, e: Engine, h: History, pins: Pins, waiting: bool, next: 
     frames::engine::no_word(frames::engine::cleared())
 }
 
-fn end_of(s: Settings, e: Engine) -> Engine
-    ensures { λ r. ⌜ r ≡ endOf s e ⌝ }
+// A cycle of a master's slot has gone; a slave's last capture ends its frame.
+fn tick_of(s: Settings, e: Engine) -> Engine
+    ensures { λ r. ⌜ r ≡ tickOf s e ⌝ }
 {
     let slave = s.slave;
     if slave {
@@ -35,6 +36,14 @@ fn end_of(s: Settings, e: Engine) -> Engine
     } else {
         frames::master::master_end(s, e)
     }
+}
+
+// The engine at the end of the cycle; with SSE clear nothing follows a frame.
+fn end_of(s: Settings, e: Engine) -> Engine
+    ensures { λ r. ⌜ r ≡ endOf s e ⌝ }
+{
+    let after = tick_of(s, e);
+    frames::engine::while_active(s, after)
 }
 
 fn take_if(r: Registers, takes: bool) -> Registers

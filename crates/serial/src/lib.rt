@@ -35,9 +35,9 @@ pub struct Device {
     pub lines: Lines,
 }
 
-// A device as after reset.
-pub fn reset_device() -> Device
-    ensures { λ d. ⌜ deviceOf d ≡ resetDevice ⌝ }
+// A device as after reset, of the edition that was chosen.
+pub fn reset_device(edition2: bool) -> Device
+    ensures { λ d. ⌜ deviceOf d ≡ resetDevice edition2 ⌝ }
 {
     let low = Pins {
         clk: false,
@@ -45,7 +45,7 @@ pub fn reset_device() -> Device
         rxd: false,
     };
     Device {
-        registers: registers::reset_registers(),
+        registers: registers::reset_registers(edition2),
         engine: frames::engine::cleared(),
         pins: History {
             newest: low,

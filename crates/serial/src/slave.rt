@@ -1,6 +1,6 @@
 // What a slave does in a cycle: it sees each pin as it stood two cycles earlier, and an edge against the cycle before.
 ghost use mathlib.Core.Path.{_≡_};
-ghost use Rattle.serial.specs.Slave.{offered, slaveTake, slaveDrive, selectedOf, motorolaSelect, captureEdge, driveEdge, motorolaClock, afterTaking, motorolaEdges, motorolaSlave, withMark, tiFalls, tiRises, tiSlave, ready, microwireSelect, dataOver, dataRises, microwireRises, microwireFalls, microwireEdges, microwireSlave, slaveStep, endedOn, slaveEnd};
+ghost use Rattle.serial.specs.Slave.{slaveTake, slaveDrive, selectedOf, motorolaSelect, captureEdge, driveEdge, motorolaClock, afterTaking, motorolaEdges, motorolaSlave, withMark, tiFalls, tiRises, tiSlave, ready, microwireSelect, dataOver, dataRises, microwireRises, microwireFalls, microwireEdges, microwireSlave, slaveStep, endedOn, slaveEnd};
 use frames::engine::Engine;
 use frames::engine::Step;
 use frames::lines::Pins;
@@ -8,26 +8,13 @@ use registers::settings::Format;
 use registers::settings::Settings;
 use registers::time::Slots;
 
-// The word that a slave sends.
-fn offered(may: bool, next: u16) -> u16
-    ensures { λ r. ⌜ r ≡ offered may next ⌝ }
-{
-    if may { next } else { 0 }
-}
-
 // The one way to take a word. Where the slave may not take one it sends zeros.
 fn slave_take(s: Settings, e: Engine, may: bool, next: u16) -> Step
     ensures { λ r. ⌜ r ≡ slaveTake s e may next ⌝ }
 {
-    let word = offered(may, next);
+    let word = frames::engine::offered(may, next);
     let shift = frames::engine::started(s.bits as u16, word);
-    let framed = frames::engine::with_frame(e, true, shift);
-    Step {
-        engine: framed,
-        takes: may,
-        complete: false,
-        word: 0,
-    }
+    frames::engine::begun_if(may, e, shift)
 }
 
 // Motorola and TI: with c bits captured it drives bit c.
@@ -243,7 +230,7 @@ fn data_rises(s: Settings, e: Engine) -> Engine
     e
 }
 
-// Eight control bits, then the rise that takes the word, then those of the data bits.
+// Eight control bits, then the rise that takes the word, none with SSE clear, then those of the data bits.
 fn microwire_rises(s: Settings, e: Engine, next: u16, bit: bool) -> Step
     ensures { λ r. ⌜ r ≡ microwireRises s e next bit ⌝ }
 {

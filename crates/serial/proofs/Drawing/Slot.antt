@@ -32,7 +32,7 @@ use Rattle.frames.specs.declared.slots.Event.the-variants.{Release}
 -- the settings of an enabled master, with its format and phase
 abbrev pub fixed : Format → Bool → Settings → Settings
 fixed f phase s =
-    settingsBy f phase (s .polarity) (s .bits) (s .divisor) false (s .sod) (s .loopback) true
+    settingsBy f phase (s .polarity) (s .bits) (s .divisor) false (s .sod) (s .loopback) true (s .edition2)
 
 abbrev pub solo : List ℕ → Engine → Solo
 solo tx e = record { tx = tx; engine = e }

@@ -1,15 +1,16 @@
 -- A master alone, with nothing received: its cycles, and the lines that they show, whatever its pins carry.
 use Prim.Native.Nat.{ℕ}
 use mathlib.Core.Path.{_≡_, refl, ap, ap₂, _∙_}
-use mathlib.Core.Bool.{Bool, true, false, _&&_}
+use mathlib.Core.Bool.{Bool, true, false, _&&_, _||_}
 use mathlib.Core.List.{List, [], _∷_}
 use native.Mathlib.Omega.{arith}
 use lib.ListN.{length, getD}
 use Rattle.registers.specs.Choose.{pick}
 use Rattle.registers.specs.Settings.{settingsOf}
+use Rattle.registers.proofs.Picks.{pick-yes}
 use Rattle.registers.specs.Transfer.{rest}
 use Rattle.registers.specs.declared.settings.Settings.{Settings}
-use Rattle.frames.specs.Engine.{cleared, noWord}
+use Rattle.frames.specs.Engine.{cleared, whileActive, noWord}
 use Rattle.frames.specs.Lines.{masterLines}
 use Rattle.frames.specs.Master.{masterStep, masterEnd}
 use Rattle.serial.specs.Cycle.{DeviceModel, cycleOf, recording}
@@ -64,7 +65,7 @@ module _ (s : Settings) (d : DeviceModel) (pins : Pins) (k : Runs s d) where
       let tx = d .registers .tx in
       let e = withoutReceived (d .engine) in
       ap (λ (u : Settings). sendStep u tx e) (k .set)
-      ∙ ap (λ (t : Bool). stepWithoutReceived (pick t (masterStep s e (t && waits tx) (getD tx 0 0) false) (noWord cleared))) (k .enabled)
+      ∙ ap (λ (t : Bool). stepWithoutReceived (pick (t || (e .frame && s .edition2)) (masterStep s e (t && waits tx) (getD tx 0 0) false) (noWord cleared))) (k .enabled)
 
   lines-is : cycleOf d pins .lines ≡ shows s (soloOf d)
   unfolding acted
@@ -72,7 +73,9 @@ module _ (s : Settings) (d : DeviceModel) (pins : Pins) (k : Runs s d) where
 
   engine-is : withoutReceived (cycleOf d pins .engine) ≡ cycle s (soloOf d) .engine
   unfolding cycle acted
-  engine-is = engine-sends d pins is-master ∙ (λ i. masterEnd (k .set i) (step-is i .engine))
+  engine-is =
+      engine-sends d pins is-master ∙ (λ i. whileActive (k .set i) (masterEnd (k .set i) (step-is i .engine)))
+      ∙ pick-yes _ _ (ap (λ (t : Bool). t || (masterEnd s (moves s (soloOf d) .engine) .frame && s .edition2)) (k .enabled))
 
   tx-is : cycleOf d pins .registers .tx ≡ cycle s (soloOf d) .tx
   unfolding cycle acted

@@ -20,7 +20,7 @@ use Rattle.frames.specs.Engine.{cleared, noWord}
 use Rattle.frames.specs.Lines.{idleOn, linesOf, masterLines, masterTxd}
 use Rattle.serial.specs.Slave.{slaveStep}
 use Rattle.serial.specs.Cycle.{DeviceModel, deviceStep, stepOf, activeDevice}
-use Rattle.serial.proofs.Cycles.{control-cycle, step-stopped}
+use Rattle.serial.proofs.Cycles.{control-cycle, active-idle}
 use Rattle.serial.specs.Access.{writeDevice}
 use Rattle.serial.proofs.Soundness.{sound-registers}
 use Rattle.serial.proofs.Accesses.{engine-enabling}
@@ -40,8 +40,9 @@ use Rattle.serial.proofs.Exchange.Formats.{wiring-of}
 use Rattle.serial.proofs.Exchange.Busy.{pair-busy, pair-free}
 use Rattle.serial.proofs.Exchange.Finish.{answers, loadCycles, has-received}
 use Rattle.serial.proofs.Exchange.Project.{coreOf, rxOf, Paired, commutes}
-use Rattle.serial.proofs.Exchange.Lead.{Lead, lead-steps, lead-write₁, lead-write₂}
-use Rattle.serial.proofs.Exchange.Enable.{switchedOn, settings-on, control-on}
+use Rattle.serial.proofs.Exchange.Lead.{Lead, step-off, lead-steps, lead-write₁, lead-write₂}
+use Rattle.serial.proofs.Exchange.Enable.{settings-on, control-on}
+use Rattle.serial.specs.Editions.{switchedOn}
 use Rattle.serial.specs.Demand3.{Step, plays, cyclesIn, controlOf, Stays, Agree, Start, completed, received, load, held, busyFor, Received, Exchanged, slaveEnabled, masterEnabled, Demand3}
 use Rattle.serial.specs.Demand3.Which.{master, slave}
 use Rattle.frames.specs.declared.engine.Engine.{Engine}
@@ -56,8 +57,10 @@ paired-next g P =
     record {
       wiring = P .wiring;
       master = ap settingsOf (control-cycle (g .first) (wire (g .second .lines))) ∙ P .master;
+      edition = P .edition;
       its-phase = P .its-phase;
       its-polarity = P .its-polarity;
+      its-edition = P .its-edition;
       phases = P .phases;
       polarities = P .polarities;
       slave = ap settingsOf (control-cycle (g .second) (wire (g .first .lines))) ∙ P .slave;
@@ -136,7 +139,7 @@ module _ (f : Format) (phase p : Bool) (b h k : ℕ) (o : Bool) (c₁ c₂ : Con
   in-time : (j : ℕ) → loadCycles (P .wiring) slow (load master g) ≤ until + j
   in-time j = omega (arith, received-busy (P .wiring) slow (load master g))
 
-  master-gets : (j : ℕ) → Received (given f phase p b h false o) (until + j) master g
+  master-gets : (j : ℕ) → Received (given f phase p b h false o (P .edition)) (until + j) master g
   master-gets j =
       let r = ap (λ (c : Pair). c .m .rx) (run-of (until + j)) ∙ has-received (P .wiring) slow (load master g) q₁ (load slave g) q₂ (until + j) (in-time j) held-small₁ held-small₂ .0 in
       let d = ap (map (cut (captureWidth (plain f phase b h false)))) (answers-due (load master g) (load slave g)) in
@@ -146,14 +149,14 @@ module _ (f : Format) (phase p : Bool) (b h k : ℕ) (o : Bool) (c₁ c₂ : Con
         overrun = ap (λ (x : Receiver). x .ror) r ∙ ap₂ (λ (t : Bool) (x : List ℕ). t || ltb 8 (length (held master g ++ x))) (L .first .ror) d;
       }
 
-  slave-gets : (j : ℕ) → Received (given f phase p b h false o) (until + j) slave g
+  slave-gets : (j : ℕ) → Received (given f phase p b h false o (P .edition)) (until + j) slave g
   unfolding widthOf
   slave-gets j =
       let r = ap (λ (c : Pair). c .s .rx) (run-of (until + j)) ∙ has-received (P .wiring) slow (load master g) q₁ (load slave g) q₂ (until + j) (in-time j) held-small₁ held-small₂ .1 in
       record {
         words = ap (λ (x : Receiver). x .log) r;
         queue = ap (λ (x : Receiver). x .held) r;
-        overrun = ap (λ (x : Receiver). x .ror) r ∙ ap (λ (t : Bool). t || ltb 8 (length (held slave g ++ map (cut (widthOf (given f phase p b h false o))) (load master g)))) (L .second .ror);
+        overrun = ap (λ (x : Receiver). x .ror) r ∙ ap (λ (t : Bool). t || ltb 8 (length (held slave g ++ map (cut (widthOf (given f phase p b h false o (P .edition)))) (load master g)))) (L .second .ror);
       }
 
   pub exchanged-at : Exchanged g
@@ -190,21 +193,21 @@ unfolding writeDevice
 control-written d o v = refl
 
 -- a slave that is on, idle, and sees the master's idle lines
-slave-stays-idle : {f : Format} {phase : Bool} {b h : ℕ} → Wiring f phase b h → (phase′ p p′ : Bool) (k : ℕ) → Agree f phase′ phase → Agree f p′ p → (d : DeviceModel) (x : Pins)
-    → settingsOf (d .registers .control) ≡ given f phase′ p′ b k true false → d .engine ≡ cleared
+slave-stays-idle : {f : Format} {phase : Bool} {b h : ℕ} → Wiring f phase b h → (phase′ p p′ ed : Bool) (k : ℕ) → Agree f phase′ phase → Agree f p′ p → (d : DeviceModel) (x : Pins)
+    → settingsOf (d .registers .control) ≡ given f phase′ p′ b k true false ed → d .engine ≡ cleared
     → d .pins .oldest ≡ wire (idleOn f p) → d .pins .middle ≡ wire (idleOn f p) → deviceStep d x ≡ noWord cleared
 unfolding deviceStep stepOf
-slave-stays-idle {f = f} {b = b} W phase′ p p′ k a a′ d x s e u v =
+slave-stays-idle {f = f} {b = b} W phase′ p p′ ed k a a′ d x s e u v =
     ap₂ (λ (s : Settings) (e : Engine). stepOf s e (d .pins) x (waitingOf (d .registers)) (nextWord (d .registers))) s e
-    ∙ ap₂ (λ (u v : Pins). slaveStep (given f phase′ p′ b k true false) cleared u v (nextWord (d .registers))) u v
-    ∙ stays-idle-given W phase′ p p′ k (nextWord (d .registers)) a a′
+    ∙ ap₂ (λ (u v : Pins). slaveStep (given f phase′ p′ b k true false ed) cleared u v (nextWord (d .registers))) u v
+    ∙ stays-idle-given W phase′ p p′ ed k (nextWord (d .registers)) a a′
 
 -- the control registers after a device's enabling
-control-after : (d : DeviceModel) (c : Control) → d .registers .control ≡ c → c .cr1 ≤ 15 → enabledOf c ≡ false → permittedOf (c .cr0) ≡ true → (c .cpsr ≡ 0 → ⊥)
+control-after : (d : DeviceModel) (c : Control) → d .registers .control ≡ c → d .engine .frame ≡ false → c .cr1 ≤ 15 → enabledOf c ≡ false → permittedOf (c .cr0) ≡ true → (c .cpsr ≡ 0 → ⊥)
     → writeDevice d 0x04 (d .registers .control .cr1 + 2) .registers .control ≡ switchedOn c
-control-after d c e small off good divided =
+control-after d c e idle small off good divided =
     control-written d 0x04 (d .registers .control .cr1 + 2)
-    ∙ control-on (d .registers) (activeDevice d) (enabled-is (d .registers .control) ∙ ap enabledOf e ∙ off) (subst (λ (z : Control). z .cr1 ≤ 15) (sym e) small) (ap enabledOf e ∙ off) (ap (λ (z : Control). permittedOf (z .cr0)) e ∙ good) (λ w. divided (sym (ap (λ (z : Control). z .cpsr) e) ∙ w))
+    ∙ control-on (d .registers) (activeDevice d) (active-idle (d .registers .control) (d .engine) idle ∙ ap enabledOf e ∙ off) (subst (λ (z : Control). z .cr1 ≤ 15) (sym e) small) (ap enabledOf e ∙ off) (ap (λ (z : Control). permittedOf (z .cr0)) e ∙ good) (λ w. divided (sym (ap (λ (z : Control). z .cpsr) e) ∙ w))
     ∙ ap switchedOn e
 
 module _ (p : PairModel) (st : Start p) where
@@ -237,13 +240,13 @@ module _ (p : PairModel) (st : Start p) where
   small₂ = sound-elim (p .second .registers) _ (sound-registers (p .second) (st .sound-slave)) .control .cr1
 
   -- the settings of both once they are on
-  on₁ : settingsOf (switchedOn (controlOf master p)) ≡ given (s₁ .format) (s₁ .phase) (s₁ .polarity) (s₁ .bits) (s₁ .divisor .0) false (s₁ .sod)
+  on₁ : settingsOf (switchedOn (controlOf master p)) ≡ given (s₁ .format) (s₁ .phase) (s₁ .polarity) (s₁ .bits) (s₁ .divisor .0) false (s₁ .sod) (s₁ .edition2)
   on₁ = settings-on (controlOf master p) small₁ off₁
-      ∙ (λ t. settingsBy (s₁ .format) (s₁ .phase) (s₁ .polarity) (s₁ .bits) (s₁ .divisor) (st .is-master t) (s₁ .sod) (st .straight-master t) true)
+      ∙ (λ t. settingsBy (s₁ .format) (s₁ .phase) (s₁ .polarity) (s₁ .bits) (s₁ .divisor) (st .is-master t) (s₁ .sod) (st .straight-master t) true (s₁ .edition2))
 
-  on₂ : settingsOf (switchedOn (controlOf slave p)) ≡ given (s₁ .format) (s₂ .phase) (s₂ .polarity) (s₁ .bits) (s₂ .divisor .0) true false
+  on₂ : settingsOf (switchedOn (controlOf slave p)) ≡ given (s₁ .format) (s₂ .phase) (s₂ .polarity) (s₁ .bits) (s₂ .divisor .0) true false (s₂ .edition2)
   on₂ = settings-on (controlOf slave p) small₂ off₂
-      ∙ (λ t. settingsBy (st .format t) (s₂ .phase) (s₂ .polarity) (st .size t) (s₂ .divisor) (st .is-slave t) (st .output t) (st .straight-slave t) true)
+      ∙ (λ t. settingsBy (st .format t) (s₂ .phase) (s₂ .polarity) (st .size t) (s₂ .divisor) (st .is-slave t) (st .output t) (st .straight-slave t) true (s₂ .edition2))
 
   abbrev i : Lines
   i = idleOn (settingsOf (controlOf master p) .format) (settingsOf (controlOf master p) .polarity)
@@ -260,8 +263,8 @@ module _ (p : PairModel) (st : Start p) where
   lead-start : Lead i hidden (controlOf master p) (controlOf slave p) 0 p
   lead-start =
       record {
-        first = record { control = refl; sound = st .sound-master; ror = st .clear-master; engine = λ l. absurd (omega arith); lines = λ l. absurd (omega arith) };
-        second = record { control = refl; sound = st .sound-slave; ror = st .clear-slave; engine = λ l. absurd (omega arith); lines = λ l. absurd (omega arith) };
+        first = record { control = refl; sound = st .sound-master; ror = st .clear-master; frame = st .idle-master; engine = λ l. absurd (omega arith); lines = λ l. absurd (omega arith) };
+        second = record { control = refl; sound = st .sound-slave; ror = st .clear-slave; frame = st .idle-slave; engine = λ l. absurd (omega arith); lines = λ l. absurd (omega arith) };
         newest = λ l. absurd (omega arith);
         middle = λ l. absurd (omega arith);
         oldest = λ l. absurd (omega arith);
@@ -270,7 +273,7 @@ module _ (p : PairModel) (st : Start p) where
   -- both off
   lead-pre : (pre : List Step) → Stays pre p → Lead i hidden (controlOf master p) (controlOf slave p) (cyclesIn pre) (plays pre p)
   lead-pre pre z =
-      lead-steps idle₁ idle₂ off₁ 0 (λ n g l c. step-stopped (g .second) (wire (g .first .lines)) (ap enabledOf (c .second .control) ∙ off₂)) pre 0 (cyclesIn pre) p (omega arith) (omega arith) z lead-start
+      lead-steps idle₁ idle₂ off₁ 0 (λ n g l c. step-off (c .second) (wire (g .first .lines)) off₂) pre 0 (cyclesIn pre) p (omega arith) (omega arith) z lead-start
 
   -- the slave on
   lead-slave : (pre : List Step) → Stays pre p → Lead i hidden (controlOf master p) (switchedOn (controlOf slave p)) (cyclesIn pre) (slaveEnabled pre p)
@@ -278,13 +281,13 @@ module _ (p : PairModel) (st : Start p) where
       let l = lead-pre pre z in
       let g = plays pre p in
       lead-write₂ g l (switchedOn (controlOf slave p)) 0x04 (g .second .registers .control .cr1 + 2)
-      (control-after (g .second) (controlOf slave p) (l .second .control) small₂ off₂ (st .permitted-slave) (st .divided-slave))
+      (control-after (g .second) (controlOf slave p) (l .second .control) (l .second .frame) small₂ off₂ (st .permitted-slave) (st .divided-slave))
       (engine-enabling (g .second) 0x04 _ (ap enabledOf (l .second .control) ∙ off₂))
 
   lead-mid : (pre mid : List Step) → 4 ≤ cyclesIn pre → Stays pre p → Stays mid (slaveEnabled pre p) → Lead i hidden (controlOf master p) (switchedOn (controlOf slave p)) (cyclesIn pre + cyclesIn mid) (plays mid (slaveEnabled pre p))
   lead-mid pre mid four z z′ =
       lead-steps idle₁ idle-on₂ off₁ 4
-      (λ n g l c. slave-stays-idle wired (s₂ .phase) (s₁ .polarity) (s₂ .polarity) (s₂ .divisor .0) (st .phase) (st .polarity) (g .second) (wire (g .first .lines)) (ap settingsOf (c .second .control) ∙ on₂) (c .second .engine (omega arith)) (c .oldest l) (c .middle (omega arith)))
+      (λ n g l c. slave-stays-idle wired (s₂ .phase) (s₁ .polarity) (s₂ .polarity) (s₂ .edition2) (s₂ .divisor .0) (st .phase) (st .polarity) (g .second) (wire (g .first .lines)) (ap settingsOf (c .second .control) ∙ on₂) (c .second .engine (omega arith)) (c .oldest l) (c .middle (omega arith)))
       mid (cyclesIn pre) (cyclesIn pre + cyclesIn mid) (slaveEnabled pre p) refl four z′ (lead-slave pre z)
 
   -- the master on
@@ -294,7 +297,7 @@ module _ (p : PairModel) (st : Start p) where
       let l = lead-mid pre mid four z z′ in
       let g = plays mid (slaveEnabled pre p) in
       lead-write₁ g l (switchedOn (controlOf master p)) 0x04 (g .first .registers .control .cr1 + 2)
-      (control-after (g .first) (controlOf master p) (l .first .control) small₁ off₁ (st .permitted-master) (st .divided-master))
+      (control-after (g .first) (controlOf master p) (l .first .control) (l .first .frame) small₁ off₁ (st .permitted-master) (st .divided-master))
       (engine-enabling (g .first) 0x04 _ (ap enabledOf (l .first .control) ∙ off₁))
 
 -- Demand 3, its first part.
@@ -306,8 +309,10 @@ demand3 p pre mid st four z z′ =
     (record {
       wiring = wired p st;
       master = ap settingsOf (l .first .control) ∙ on₁ p st;
+      edition = s .edition2;
       its-phase = settingsOf (controlOf slave p) .phase;
       its-polarity = settingsOf (controlOf slave p) .polarity;
+      its-edition = settingsOf (controlOf slave p) .edition2;
       phases = st .phase;
       polarities = st .polarity;
       slave = ap settingsOf (l .second .control) ∙ on₂ p st;

@@ -37,10 +37,10 @@ pub record Side : Type 0 where
   pub engine : Engine
   pub lines : Lines
 
--- settings with SPO 0, enabled, loopback off, output on
+-- settings with SPO 0, enabled, loopback off, output on; enabled, so that the edition makes no difference
 abbrev pub plain : Format → Bool → ℕ → ℕ → Bool → Settings
 plain f phase b h slave =
-    settingsBy f phase false b (divisor h) slave false false true
+    settingsBy f phase false b (divisor h) slave false false true false
 
 -- a step with its words moved
 abbrev pub moved : Step → Side → Lines → Side

@@ -11,10 +11,7 @@ use Rattle.registers.specs.Offsets.{registerOf}
 use Rattle.registers.specs.Settings.{settingsOf, enabledOf, permittedOf, divisorOf, settingsBy}
 use Rattle.registers.specs.Access.{writeModel, writeRefusal, cr1Written, cr1Rule}
 use Rattle.registers.specs.declared.Control.{Control}
-
--- the control registers with SSE set
-abbrev pub switchedOn : Control → Control
-switchedOn c = record { cr0 = c .cr0; cr1 = c .cr1 + 2; cpsr = c .cpsr }
+use Rattle.serial.specs.Editions.{switchedOn}
 
 quarter-twice : (x : ℕ) → x / 4 ≡ x / 2 / 2
 quarter-twice x = omega arith
@@ -39,7 +36,7 @@ module _ (c : Control) (small : c .cr1 ≤ 15) (off : enabledOf c ≡ false) whe
   fits-four : c .cr1 + 2 < 16
   fits-four = let b = bit-off in omega arith
 
-  same-loopback : (c .cr1 + 2) / 1 % 2 ≡ c .cr1 / 1 % 2
+  pub same-loopback : (c .cr1 + 2) / 1 % 2 ≡ c .cr1 / 1 % 2
   same-loopback = omega arith
 
   -- CR1 is four times its upper half, and its low bit
@@ -49,7 +46,7 @@ module _ (c : Control) (small : c .cr1 ≤ 15) (off : enabledOf c ≡ false) whe
   same-upper : (c .cr1 + 2) / 4 ≡ c .cr1 / 4
   same-upper = quarter (c .cr1) (c .cr1 / 4) (c .cr1 % 2) split (mod-lt (c .cr1) (zero-lt-suc 1))
 
-  same-role : (c .cr1 + 2) / 4 % 2 ≡ c .cr1 / 4 % 2
+  pub same-role : (c .cr1 + 2) / 4 % 2 ≡ c .cr1 / 4 % 2
   same-role = ap (λ (x : ℕ). x % 2) same-upper
 
   same-output : (c .cr1 + 2) / 8 % 2 ≡ c .cr1 / 8 % 2
@@ -59,7 +56,7 @@ module _ (c : Control) (small : c .cr1 ≤ 15) (off : enabledOf c ≡ false) whe
   now-on = let b = bit-off in omega arith
 
   pub settings-on : settingsOf (switchedOn c)
-      ≡ settingsBy (settingsOf c .format) (settingsOf c .phase) (settingsOf c .polarity) (settingsOf c .bits) (settingsOf c .divisor) (settingsOf c .slave) (settingsOf c .sod) (settingsOf c .loopback) true
+      ≡ settingsBy (settingsOf c .format) (settingsOf c .phase) (settingsOf c .polarity) (settingsOf c .bits) (settingsOf c .divisor) (settingsOf c .slave) (settingsOf c .sod) (settingsOf c .loopback) true (settingsOf c .edition2)
   unfolding settingsOf divisorOf enabledOf
   settings-on = rw (same-loopback, same-role, same-output, now-on)
 

@@ -5,7 +5,6 @@ use mathlib.Core.Bool.{Bool, true, false, not, _&&_}
 use mathlib.Core.List.{List, [], _∷_}
 use native.Mathlib.Omega.{arith}
 use lib.Dec.{eqb}
-use Rattle.registers.specs.Choose.{pick}
 use Rattle.registers.specs.Bits.{bitAt}
 use Rattle.registers.proofs.Picks.{pick-both}
 use Rattle.registers.specs.Model.{Model}
@@ -20,14 +19,16 @@ use Rattle.registers.specs.declared.offsets.Register.the-variants.{Cr0, Cr1, Dr
 use Rattle.frames.specs.Engine.{cleared, noWord}
 use Rattle.frames.specs.Lines.{linesOf}
 use Rattle.serial.specs.Cycle.{DeviceModel, endOf, takeIf, receiveIf, stepModel, deviceStep, cycleOf, activeDevice}
-use Rattle.serial.proofs.Cycles.{control-cycle, step-stopped, end-cleared}
-use Rattle.serial.specs.Access.{readDevice, writeDevice, engineAfter}
+use Rattle.serial.proofs.Cycles.{control-cycle, active-idle, step-stopped, end-cleared}
+use Rattle.serial.specs.Access.{readDevice, writeDevice}
+use Rattle.serial.proofs.Accesses.{engine-kept}
 use Rattle.serial.specs.Sound.{soundDevice}
 use Rattle.serial.proofs.Soundness.{sound-cycle, sound-read, sound-write}
 use Rattle.serial.specs.Pair.{wire, PairModel, pairCycle}
 use Rattle.serial.specs.Demand3.{Step, play, plays, cyclesIn, controlOf, Stays}
 use Rattle.serial.specs.Demand3.Which.{master, slave}
 use Rattle.serial.specs.Demand3.Step.{read, write}
+use Rattle.frames.specs.declared.engine.Engine.{Engine}
 use Rattle.frames.specs.declared.lines.Lines.{Lines}
 use Rattle.frames.specs.declared.lines.Pins.{Pins}
 
@@ -57,15 +58,6 @@ ror-write : (m : Model) (active : Bool) (o v : ℕ) → m .ror ≡ false → wri
 unfolding writeModel
 ror-write m active o v h = pick-both (λ (z : Model). z .ror ≡ false) (eqb (writeRefusal m active (registerOf o) v) 0) _ _ (λ _. write-ror m (registerOf o) v h) (λ _. h)
 
-and-not : (t : Bool) → (t && not t) ≡ false
-and-not true = refl
-and-not false = refl
-
--- the engine stays where SSE does
-engine-write : (d : DeviceModel) (o v : ℕ) → enabledOf (writeModel (d .registers) (activeDevice d) o v .control) ≡ enabledOf (d .registers .control) → writeDevice d o v .engine ≡ d .engine
-unfolding writeDevice engineAfter
-engine-write d o v h = ap (λ (t : Bool). pick (enabledOf (d .registers .control) && not t) cleared (d .engine)) h ∙ ap (λ (t : Bool). pick t cleared (d .engine)) (and-not (enabledOf (d .registers .control)))
-
 -- A device that is off, or on and idle ---------------------------------------------------------------------------------
 
 -- n cycles of it have gone; i are its idle lines
@@ -73,6 +65,7 @@ pub record Resting (i : Lines) (c : Control) (n : ℕ) (d : DeviceModel) : Type 
   pub control : d .registers .control ≡ c
   pub sound : soundDevice d ≡ true
   pub ror : d .registers .ror ≡ false
+  pub frame : d .engine .frame ≡ false
   pub engine : 1 ≤ n → d .engine ≡ cleared
   pub lines : 1 ≤ n → d .lines ≡ i
 
@@ -80,24 +73,30 @@ module _ {i : Lines} {c : Control} {n : ℕ} {d : DeviceModel} (l : Resting i c 
   resting-read : (o : ℕ) → Resting i c n (readDevice d o)
   unfolding readDevice
   resting-read o =
-      record { control = control-read (d .registers) o ∙ l .control; sound = sound-read d o (l .sound); ror = ror-read (d .registers) o ∙ l .ror; engine = l .engine; lines = l .lines }
+      record { control = control-read (d .registers) o ∙ l .control; sound = sound-read d o (l .sound); ror = ror-read (d .registers) o ∙ l .ror; frame = l .frame; engine = l .engine; lines = l .lines }
 
   -- a write, with the control registers that it leaves
   resting-write : {c′ : Control} (o v : ℕ) → writeDevice d o v .registers .control ≡ c′ → writeDevice d o v .engine ≡ d .engine → Resting i c′ n (writeDevice d o v)
   unfolding writeDevice
-  resting-write o v e k = record { control = e; sound = sound-write d o v (l .sound); ror = ror-write (d .registers) (activeDevice d) o v (l .ror); engine = λ z. k ∙ l .engine z; lines = l .lines }
+  resting-write o v e k = record { control = e; sound = sound-write d o v (l .sound); ror = ror-write (d .registers) (activeDevice d) o v (l .ror); frame = ap (λ (e : Engine). e .frame) k ∙ l .frame; engine = λ z. k ∙ l .engine z; lines = l .lines }
 
   -- a cycle in which nothing happens
   resting-cycle : (x : Pins) → linesOf (settingsOf c) cleared ≡ i → deviceStep d x ≡ noWord cleared → Resting i c (suc n) (cycleOf d x)
   unfolding cycleOf endCycle takeIf receiveIf
   resting-cycle x p q =
+      let e : cycleOf d x .engine ≡ cleared = ap (λ r. endOf (settingsOf (d .registers .control)) (r .engine)) q ∙ end-cleared _ in
       record {
         control = control-cycle d x ∙ l .control;
         sound = sound-cycle d x (l .sound);
         ror = ap (λ r. stepModel (d .registers) r .ror) q ∙ l .ror;
-        engine = λ _. ap (λ r. endOf (settingsOf (d .registers .control)) (r .engine)) q ∙ end-cleared _;
+        frame = ap (λ (x : Engine). x .frame) e;
+        engine = λ _. e;
         lines = λ _. ap₂ (λ (z : Control) r. linesOf (settingsOf z) (r .engine)) (l .control) q ∙ p;
       }
+
+  -- with SSE clear nothing does
+  pub step-off : (x : Pins) → enabledOf c ≡ false → deviceStep d x ≡ noWord cleared
+  step-off x off = step-stopped d x (active-idle (d .registers .control) (d .engine) (l .frame) ∙ ap enabledOf (l .control) ∙ off)
 
 -- The lead-in ----------------------------------------------------------------------------------------------------------
 
@@ -139,11 +138,6 @@ module _ {i j : Lines} {c₁ c₂ : Control} {n : ℕ} (g : PairModel) (l : Lead
         oldest = λ m. l .middle (omega arith);
       }
 
--- a write that leaves the control registers leaves the engine
-kept : (d : DeviceModel) (o v : ℕ) → writeDevice d o v .registers .control ≡ d .registers .control → writeDevice d o v .engine ≡ d .engine
-unfolding writeDevice
-kept d o v h = engine-write d o v (ap enabledOf h)
-
 -- Any steps that leave the control registers: the master off, and the slave idle in every cycle.
 module _ {i j : Lines} {c₁ c₂ : Control} (p : linesOf (settingsOf c₁) cleared ≡ i) (q : linesOf (settingsOf c₂) cleared ≡ j) (off : enabledOf c₁ ≡ false)
     (from : ℕ) (quiet : (n : ℕ) (g : PairModel) → from ≤ n → Lead i j c₁ c₂ n g → deviceStep (g .second) (wire (g .first .lines)) ≡ noWord cleared) where
@@ -151,8 +145,8 @@ module _ {i j : Lines} {c₁ c₂ : Control} (p : linesOf (settingsOf c₁) clea
   lead-steps [] n m g e k z l = subst (λ (x : ℕ). Lead i j c₁ c₂ x g) (omega arith) l
   lead-steps (Step.cycle ∷ xs) n m g e k z l =
       lead-steps xs (suc n) m (pairCycle g) (omega arith) (omega arith) (z .2)
-      (lead-cycle g l p q (step-stopped (g .first) (wire (g .second .lines)) (ap enabledOf (l .first .control) ∙ off)) (quiet n g k l))
+      (lead-cycle g l p q (step-off (l .first) (wire (g .second .lines)) off) (quiet n g k l))
   lead-steps (read master o ∷ xs) n m g e k z l = lead-steps xs n m _ e k (z .2) (lead-first g l (resting-read (l .first) o))
   lead-steps (read slave o ∷ xs) n m g e k z l = lead-steps xs n m _ e k (z .2) (lead-read₂ g l o)
-  lead-steps (write master o v ∷ xs) n m g e k z l = lead-steps xs n m _ e k (z .2) (lead-write₁ g l c₁ o v (z .0 ∙ l .first .control) (kept (g .first) o v (z .0)))
-  lead-steps (write slave o v ∷ xs) n m g e k z l = lead-steps xs n m _ e k (z .2) (lead-write₂ g l c₂ o v (z .1 ∙ l .second .control) (kept (g .second) o v (z .1)))
+  lead-steps (write master o v ∷ xs) n m g e k z l = lead-steps xs n m _ e k (z .2) (lead-write₁ g l c₁ o v (z .0 ∙ l .first .control) (engine-kept (g .first) o v (z .0)))
+  lead-steps (write slave o v ∷ xs) n m g e k z l = lead-steps xs n m _ e k (z .2) (lead-write₂ g l c₂ o v (z .1 ∙ l .second .control) (engine-kept (g .second) o v (z .1)))

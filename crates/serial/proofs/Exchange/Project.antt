@@ -14,7 +14,7 @@ use Rattle.registers.specs.declared.settings.Settings.{Settings}
 use Rattle.frames.specs.Lines.{masterLines, slaveLines, linesOf}
 use Rattle.frames.specs.Master.{masterStep}
 use Rattle.serial.specs.Slave.{slaveStep, slaveEnd}
-use Rattle.serial.specs.Cycle.{DeviceModel, stepOf, endOf, takeIf, receiveIf, deviceStep, completedOf, cycleOf}
+use Rattle.serial.specs.Cycle.{DeviceModel, stepOf, tickOf, endOf, takeIf, receiveIf, deviceStep, completedOf, cycleOf}
 use Rattle.serial.specs.Pair.{wire, PairModel, pairCycle}
 use Rattle.serial.specs.Demand3.{Agree, completed}
 use Rattle.serial.specs.Demand3.Which.{master, slave}
@@ -56,16 +56,18 @@ abbrev pub coreOf : Bool → List ℕ → List ℕ → PairModel → Pair
 coreOf p l k g =
     record { m = sideOf p l (g .first); s = sideOf false k (g .second); h = historyOf p (g .second .pins) }
 
--- the two devices are set up as a pair and enabled
+-- the two devices are set up as a pair and enabled, each of its own edition
 pub record Paired (f : Format) (phase p : Bool) (b h k : ℕ) (o : Bool) (g : PairModel) : Type 0 where
   pub wiring : Wiring f phase b h
-  pub master : settingsOf (g .first .registers .control) ≡ given f phase p b h false o
-  -- SPH and SPO of the slave
+  pub edition : Bool
+  pub master : settingsOf (g .first .registers .control) ≡ given f phase p b h false o edition
+  -- SPH, SPO and edition of the slave
   pub its-phase : Bool
   pub its-polarity : Bool
+  pub its-edition : Bool
   pub phases : Agree f its-phase phase
   pub polarities : Agree f its-polarity p
-  pub slave : settingsOf (g .second .registers .control) ≡ given f its-phase its-polarity b k true false
+  pub slave : settingsOf (g .second .registers .control) ≡ given f its-phase its-polarity b k true false its-edition
 
 -- the word of a device that waits, once SSE is 1
 waits-on : (m : Model) → enabledOf (m .control) ≡ true → waitingOf m ≡ waits (m .tx)
@@ -84,7 +86,7 @@ module _ {f : Format} {phase p : Bool} {b h k : ℕ} {o : Bool} (g : PairModel) 
       let e = g .first .engine in
       let m = g .first .registers in
       ap₂ (λ (s : Settings) (w : Bool). stepOf s e (g .first .pins) x w (getD (m .tx) 0 0)) (P .master) (waits-on m first-on)
-      ∙ step-plain f phase p b h o e (waits (m .tx)) (getD (m .tx) 0 0) (x .rxd)
+      ∙ step-plain f phase p b h o (P .edition) e (waits (m .tx)) (getD (m .tx) 0 0) (x .rxd)
 
   -- the slave's step, with the pins turned back
   second-step : (x : Pins) → deviceStep (g .second) x
@@ -97,8 +99,8 @@ module _ {f : Format} {phase p : Bool} {b h k : ℕ} {o : Bool} (g : PairModel) 
       let old = g .second .pins .oldest in
       let mid = g .second .pins .middle in
       ap (λ (s : Settings). stepOf s e (g .second .pins) x (waitingOf m) (getD (m .tx) 0 0)) (P .slave)
-      ∙ ap₂ (λ (u v : Pins). slaveStep (given f (P .its-phase) (P .its-polarity) b k true false) e u v (getD (m .tx) 0 0)) (sym (turn-pins-twice q old)) (sym (turn-pins-twice q mid))
-      ∙ P .wiring .turned (P .its-phase) p (P .its-polarity) k (P .phases) (P .polarities) e (turnPins q old) (turnPins q mid) (getD (m .tx) 0 0)
+      ∙ ap₂ (λ (u v : Pins). slaveStep (given f (P .its-phase) (P .its-polarity) b k true false (P .its-edition)) e u v (getD (m .tx) 0 0)) (sym (turn-pins-twice q old)) (sym (turn-pins-twice q mid))
+      ∙ P .wiring .turned (P .its-phase) p (P .its-polarity) (P .its-edition) k (P .phases) (P .polarities) e (turnPins q old) (turnPins q mid) (getD (m .tx) 0 0)
 
 -- a device after a step R, as the exchange sees it
 abbrev stepped : Bool → List ℕ → DeviceModel → Settings → Step → Side
@@ -126,22 +128,22 @@ side-cycle q l d x s r e a =
 
 module _ {f : Format} {phase p : Bool} {b h k : ℕ} {o : Bool} (g : PairModel) (P : Paired f phase p b h k o g) (l j : List ℕ) where
   first-side : sideOf (turns f p) (l ++ completed master g) (pairCycle g .first) ≡ masterSide (plain f phase b h false) (sideOf (turns f p) l (g .first)) (wire (g .second .lines) .rxd)
-  unfolding pairCycle endOf linesOf masterSide acted
+  unfolding pairCycle endOf tickOf linesOf masterSide acted
   first-side =
       let x = wire (g .second .lines) in
-      let s = given f phase p b h false o in
+      let s = given f phase p b h false o (P .edition) in
       let r = masterStep (plain f phase b h false) (g .first .engine) (waits (g .first .registers .tx)) (getD (g .first .registers .tx) 0 0) (x .rxd) in
       let y = sideOf (turns f p) l (g .first) in
       side-cycle (turns f p) l (g .first) x s r (P .master) (first-step g P x)
-      ∙ ap₂ (λ (e : Engine) (z : Lines). withEngine (moved r y z) e) (end-plain f phase p b h o (r .engine))
-      (ap (turnLines (turns f p)) (lines-plain f phase p b h o (r .engine)) ∙ turn-twice (turns f p) (masterLines (plain f phase b h false) (r .engine)))
+      ∙ ap₂ (λ (e : Engine) (z : Lines). withEngine (moved r y z) e) (end-plain f phase p b h o (P .edition) (r .engine))
+      (ap (turnLines (turns f p)) (lines-plain f phase p b h o (P .edition) (r .engine)) ∙ turn-twice (turns f p) (masterLines (plain f phase b h false) (r .engine)))
 
   second-side : sideOf false (j ++ completed slave g) (pairCycle g .second)
       ≡ slaveSide (plain f phase b h true) (historyOf (turns f p) (g .second .pins) .oldest) (historyOf (turns f p) (g .second .pins) .middle) (sideOf false j (g .second))
-  unfolding pairCycle endOf linesOf slaveSide slaveLines slaveEnd
+  unfolding pairCycle endOf tickOf linesOf slaveSide slaveLines slaveEnd
   second-side =
       let x = wire (g .first .lines) in
-      let s = given f (P .its-phase) (P .its-polarity) b k true false in
+      let s = given f (P .its-phase) (P .its-polarity) b k true false (P .its-edition) in
       let q = turns f p in
       let r = slaveStep (plain f phase b h true) (g .second .engine) (turnPins q (g .second .pins .oldest)) (turnPins q (g .second .pins .middle)) (getD (g .second .registers .tx) 0 0) in
       side-cycle false j (g .second) x s r (P .slave) (second-step g P x)

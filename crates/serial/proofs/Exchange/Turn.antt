@@ -1,4 +1,4 @@
--- SPO only turns the clock over on the wire, and SOD has no say: a device with settings of a pair acts as one with plain settings.
+-- SPO only turns the clock over on the wire, and neither SOD nor the edition makes a difference: a device with settings of a pair acts as one with plain settings.
 use Prim.Native.Nat.{ℕ}
 use mathlib.Core.Path.{_≡_, refl, sym, ap, ap₂, _∙_}
 use mathlib.Core.Bool.{Bool, true, false}
@@ -24,10 +24,10 @@ use Rattle.frames.specs.declared.slots.Event.{Event}
 use Rattle.frames.specs.declared.slots.Event.the-variants.{Begin, BeginDrive, Drive, First, Capture, Chain, JoinDrive, JoinCapture, Quiet, Release, Pause}
 use Rattle.frames.specs.declared.slots.Levels.{Levels}
 
--- Settings with everything named: SPO p, SOD o.
-abbrev pub given : Format → Bool → Bool → ℕ → ℕ → Bool → Bool → Settings
-given f phase p b h slave o =
-    settingsBy f phase p b (divisor h) slave o false true
+-- Settings with everything named: SPO p, SOD o, the edition ed.
+abbrev pub given : Format → Bool → Bool → ℕ → ℕ → Bool → Bool → Bool → Settings
+given f phase p b h slave o ed =
+    settingsBy f phase p b (divisor h) slave o false true ed
 
 -- SPO as far as it means something: the level of the clock when it is not active.
 abbrev pub turns : Format → Bool → Bool
@@ -57,29 +57,29 @@ turn-pins-twice p x = ap (λ (c : Bool). record { clk = c; fss = x .fss; rxd = x
 
 -- The master --------------------------------------------------------------------------------------------------------------
 
-act-plain : (f : Format) (phase p : Bool) (b h : ℕ) (o : Bool) (e : Engine) (w : Bool) (n : ℕ) (d : Bool) (v : Event)
-    → act (given f phase p b h false o) e w n d v ≡ act (plain f phase b h false) e w n d v
+act-plain : (f : Format) (phase p : Bool) (b h : ℕ) (o ed : Bool) (e : Engine) (w : Bool) (n : ℕ) (d : Bool) (v : Event)
+    → act (given f phase p b h false o ed) e w n d v ≡ act (plain f phase b h false) e w n d v
 unfolding widthOf
-act-plain f phase p b h o e w n d Begin = refl
-act-plain f phase p b h o e w n d BeginDrive = refl
-act-plain f phase p b h o e w n d (Drive i) = refl
-act-plain f phase p b h o e w n d First = refl
-act-plain f phase p b h o e w n d Capture = refl
-act-plain f phase p b h o e w n d (Chain i) = refl
-act-plain f phase p b h o e w n d (JoinDrive i) = refl
-act-plain f phase p b h o e w n d JoinCapture = refl
-act-plain f phase p b h o e w n d Quiet = refl
-act-plain f phase p b h o e w n d Release = refl
-act-plain f phase p b h o e w n d Pause = refl
+act-plain f phase p b h o ed e w n d Begin = refl
+act-plain f phase p b h o ed e w n d BeginDrive = refl
+act-plain f phase p b h o ed e w n d (Drive i) = refl
+act-plain f phase p b h o ed e w n d First = refl
+act-plain f phase p b h o ed e w n d Capture = refl
+act-plain f phase p b h o ed e w n d (Chain i) = refl
+act-plain f phase p b h o ed e w n d (JoinDrive i) = refl
+act-plain f phase p b h o ed e w n d JoinCapture = refl
+act-plain f phase p b h o ed e w n d Quiet = refl
+act-plain f phase p b h o ed e w n d Release = refl
+act-plain f phase p b h o ed e w n d Pause = refl
 
-pub step-plain : (f : Format) (phase p : Bool) (b h : ℕ) (o : Bool) (e : Engine) (w : Bool) (n : ℕ) (d : Bool)
-    → masterStep (given f phase p b h false o) e w n d ≡ masterStep (plain f phase b h false) e w n d
+pub step-plain : (f : Format) (phase p : Bool) (b h : ℕ) (o ed : Bool) (e : Engine) (w : Bool) (n : ℕ) (d : Bool)
+    → masterStep (given f phase p b h false o ed) e w n d ≡ masterStep (plain f phase b h false) e w n d
 unfolding masterStep dataBit eventOf
-step-plain f phase p b h o e w n d = ap (λ (r : Step). pick (acting e w) r (noWord e)) (act-plain f phase p b h o e w n d (eventOf (plain f phase b h false) (e .slot)))
+step-plain f phase p b h o ed e w n d = ap (λ (r : Step). pick (acting e w) r (noWord e)) (act-plain f phase p b h o ed e w n d (eventOf (plain f phase b h false) (e .slot)))
 
-pub end-plain : (f : Format) (phase p : Bool) (b h : ℕ) (o : Bool) (e : Engine) → masterEnd (given f phase p b h false o) e ≡ masterEnd (plain f phase b h false) e
+pub end-plain : (f : Format) (phase p : Bool) (b h : ℕ) (o ed : Bool) (e : Engine) → masterEnd (given f phase p b h false o ed) e ≡ masterEnd (plain f phase b h false) e
 unfolding masterEnd ticked lastSlot
-end-plain f phase p b h o e = refl
+end-plain f phase p b h o ed e = refl
 
 -- an active clock turns over as an idle one does
 clock-turned : (f : Format) (p c : Bool) → clockOn f p c ≡ differ (clockOn f false c) (turns f p)
@@ -95,11 +95,11 @@ idle-turned Ti p = refl
 idle-turned Microwire p = refl
 idle-turned Reserved p = refl
 
-pub lines-plain : (f : Format) (phase p : Bool) (b h : ℕ) (o : Bool) (e : Engine) → masterLines (given f phase p b h false o) e ≡ turnLines (turns f p) (masterLines (plain f phase b h false) e)
+pub lines-plain : (f : Format) (phase p : Bool) (b h : ℕ) (o ed : Bool) (e : Engine) → masterLines (given f phase p b h false o ed) e ≡ turnLines (turns f p) (masterLines (plain f phase b h false) e)
 unfolding masterLines masterTxd levelsOf frameLines
-lines-plain f phase p b h o e = go (e .frame) (levelsOf (plain f phase b h false) (joinedTo e) (e .slot)) (masterTxd (plain f phase b h false) e)
+lines-plain f phase p b h o ed e = go (e .frame) (levelsOf (plain f phase b h false) (joinedTo e) (e .slot)) (masterTxd (plain f phase b h false) e)
   where
-    go : (t : Bool) (v : Levels) (d : Bool) → pick t (frameLines (given f phase p b h false o) v d) (idleOn f p) ≡ turnLines (turns f p) (pick t (frameLines (plain f phase b h false) v d) (idleOn f false))
+    go : (t : Bool) (v : Levels) (d : Bool) → pick t (frameLines (given f phase p b h false o ed) v d) (idleOn f p) ≡ turnLines (turns f p) (pick t (frameLines (plain f phase b h false) v d) (idleOn f false))
     go true v d = ap (λ (c : Bool). record { clk = c; fss = v .fss; txd = d; released = v .released }) (clock-turned f p (v .clk))
     go false v d = idle-turned f p
 
@@ -116,15 +116,15 @@ wire-plain f p = ap wire (idle-plain f p)
 -- a slave whose SPO and SPH agree with the master's, and that sees the clock turned over, acts as a plain one that sees the clock itself
 abbrev pub Turned : Format → Bool → ℕ → ℕ → Type 0
 Turned f phase b h =
-    (phase′ p p′ : Bool) (k : ℕ) → Agree f phase′ phase → Agree f p′ p → (e : Engine) (x y : Pins) (n : ℕ)
-    → slaveStep (given f phase′ p′ b k true false) e (turnPins (turns f p) x) (turnPins (turns f p) y) n ≡ slaveStep (plain f phase b h true) e x y n
+    (phase′ p p′ ed : Bool) (k : ℕ) → Agree f phase′ phase → Agree f p′ p → (e : Engine) (x y : Pins) (n : ℕ)
+    → slaveStep (given f phase′ p′ b k true false ed) e (turnPins (turns f p) x) (turnPins (turns f p) y) n ≡ slaveStep (plain f phase b h true) e x y n
 
 pub turned-motorola : (phase : Bool) (b h : ℕ) → Turned Motorola phase b h
 unfolding slaveStep motorolaSlave motorolaSelect motorolaEdges motorolaClock captureEdge driveEdge dataBit
-turned-motorola phase b h phase′ p p′ k u v e x y n =
-    ap₂ (λ (f q : Bool). slaveStep (given Motorola f q b k true false) e (turnPins (turns Motorola p) x) (turnPins (turns Motorola p) y) n) u v ∙ go p (x .clk) (y .clk)
+turned-motorola phase b h phase′ p p′ ed k u v e x y n =
+    ap₂ (λ (f q : Bool). slaveStep (given Motorola f q b k true false ed) e (turnPins (turns Motorola p) x) (turnPins (turns Motorola p) y) n) u v ∙ go p (x .clk) (y .clk)
   where
-    go : (p c d : Bool) → slaveStep (given Motorola phase p b k true false) e (record { clk = differ c p; fss = x .fss; rxd = x .rxd }) (record { clk = differ d p; fss = y .fss; rxd = y .rxd }) n
+    go : (p c d : Bool) → slaveStep (given Motorola phase p b k true false ed) e (record { clk = differ c p; fss = x .fss; rxd = x .rxd }) (record { clk = differ d p; fss = y .fss; rxd = y .rxd }) n
         ≡ slaveStep (plain Motorola phase b h true) e (record { clk = c; fss = x .fss; rxd = x .rxd }) (record { clk = d; fss = y .fss; rxd = y .rxd }) n
     go true true true = refl
     go true true false = refl
@@ -141,8 +141,8 @@ turn-none x = ap (λ (c : Bool). record { clk = c; fss = x .fss; rxd = x .rxd })
 
 pub turned-ti : (phase : Bool) (b h : ℕ) → Turned Ti phase b h
 unfolding slaveStep tiSlave tiFalls tiRises dataBit
-turned-ti phase b h phase′ p p′ k u v e x y n = ap₂ (λ (u v : Pins). slaveStep (plain Ti phase b h true) e u v n) (turn-none x) (turn-none y)
+turned-ti phase b h phase′ p p′ ed k u v e x y n = ap₂ (λ (u v : Pins). slaveStep (plain Ti phase b h true) e u v n) (turn-none x) (turn-none y)
 
 pub turned-microwire : (phase : Bool) (b h : ℕ) → Turned Microwire phase b h
 unfolding slaveStep microwireSlave microwireEdges microwireRises dataRises microwireFalls dataBit
-turned-microwire phase b h phase′ p p′ k u v e x y n = ap₂ (λ (u v : Pins). slaveStep (plain Microwire phase b h true) e u v n) (turn-none x) (turn-none y)
+turned-microwire phase b h phase′ p p′ ed k u v e x y n = ap₂ (λ (u v : Pins). slaveStep (plain Microwire phase b h true) e u v n) (turn-none x) (turn-none y)

@@ -107,9 +107,9 @@ pub record Wiring (f : Format) (phase : Bool) (b h : ℕ) : Type 0 where
   pub in-time : (n : ℕ) → slots n * h ≤ busyFor f phase b (divisor h) (suc n) .0
 
 -- An idle slave stays idle under the idle lines of any SPO.
-pub stays-idle-given : {f : Format} {phase : Bool} {b h : ℕ} → Wiring f phase b h → (phase′ p p′ : Bool) (k n : ℕ) → Agree f phase′ phase → Agree f p′ p
-    → slaveStep (given f phase′ p′ b k true false) cleared (wire (idleOn f p)) (wire (idleOn f p)) n ≡ noWord cleared
+pub stays-idle-given : {f : Format} {phase : Bool} {b h : ℕ} → Wiring f phase b h → (phase′ p p′ ed : Bool) (k n : ℕ) → Agree f phase′ phase → Agree f p′ p
+    → slaveStep (given f phase′ p′ b k true false ed) cleared (wire (idleOn f p)) (wire (idleOn f p)) n ≡ noWord cleared
 unfolding wire
-stays-idle-given {f} {phase} {b} W phase′ p p′ k n u v =
+stays-idle-given {f} {phase} {b} W phase′ p p′ ed k n u v =
     let o = wire (idleOn f false) in
-    ap (λ (x : Lines). slaveStep (given f phase′ p′ b k true false) cleared (wire x) (wire x) n) (idle-turned f p) ∙ W .turned phase′ p p′ k u v cleared o o n ∙ W .stays-idle n
+    ap (λ (x : Lines). slaveStep (given f phase′ p′ b k true false ed) cleared (wire x) (wire x) n) (idle-turned f p) ∙ W .turned phase′ p p′ ed k u v cleared o o n ∙ W .stays-idle n

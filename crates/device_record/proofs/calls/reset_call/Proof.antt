@@ -16,13 +16,13 @@ same-length : tie.Need-same-length
 same-length c = search needs
 
 returns : tie.Need-returns
-returns c = reset-done _ _ (c .before .before .before .before .before .before .reset-refusal .ensures) _ _ (c .before .before .before .before .before .if1 .taken) (c .before .before .before .before .reset-device .ensures) (c .before .before .encode .ensures)
+returns c = reset-done _ _ _ (c .before .before .before .before .before .before .reset-refusal .ensures) _ _ (c .before .before .before .before .before .if1 .taken) (c .before .before .before .before .reset-device .ensures) (c .before .before .encode .ensures)
 
 same-length-2 : tie.Need-same-length-2
 same-length-2 c = search needs
 
 returns-2 : tie.Need-returns-2
-returns-2 c = reset-refused _ _ (c .before .reset-refusal .ensures) (c .if1 .left)
+returns-2 c = reset-refused _ _ _ (c .before .reset-refusal .ensures) (c .if1 .left)
 
 pub reset-call-spec : {M : Type 1} → statement M
 reset-call-spec =

@@ -2,14 +2,17 @@ use borrow.Author.Needs.{needs}
 use Rattle.frames.proofs.master.act.Statement.{statement}
 use Rattle.frames.proofs.master.act.Tie as tie
 
+offered-requires : tie.Need-offered-requires
+offered-requires c κs = search needs
+
 enum-told : tie.Need-enum-told
 enum-told c = search needs
 
 loaded-requires : tie.Need-loaded-requires
 loaded-requires c κs = search needs
 
-begun-requires : tie.Need-begun-requires
-begun-requires c κs = search needs
+begun-if-requires : tie.Need-begun-if-requires
+begun-if-requires c κs = search needs
 
 enum-told-2 : tie.Need-enum-told-2
 enum-told-2 c = search needs
@@ -20,8 +23,8 @@ width-of-requires c κs = search needs
 started-requires : tie.Need-started-requires
 started-requires c κs = search needs
 
-begun-requires-2 : tie.Need-begun-requires-2
-begun-requires-2 c κs = search needs
+begun-if-requires-2 : tie.Need-begun-if-requires-2
+begun-if-requires-2 c κs = search needs
 
 enum-known-event : tie.Need-enum-known-event
 enum-known-event c = search needs
@@ -102,10 +105,10 @@ no-word-requires-4 : tie.Need-no-word-requires-4
 no-word-requires-4 c κs = search needs
 
 returns : tie.Need-returns
-returns c = rw (c .before .before .enum-told .given .1, c .begun .ensures, c .before .loaded .ensures)
+returns c = rw (c .before .before .enum-told .given .1, c .begun-if .ensures, c .before .loaded .ensures, c .before .before .before .before .offered .ensures)
 
 returns-2 : tie.Need-returns-2
-returns-2 c = rw (c .before .before .before .enum-told2 .given .1, c .begun2 .ensures, c .before .started .ensures, c .before .before .width-of .ensures)
+returns-2 c = rw (c .before .before .before .enum-told2 .given .1, c .begun-if2 .ensures, c .before .started .ensures, c .before .before .width-of .ensures, c .before .before .before .before .before .offered .ensures)
 
 returns-3 : tie.Need-returns-3
 returns-3 c = rw (c .before .before .event .given .1) (c .drive-step .ensures)
@@ -138,13 +141,14 @@ pub act-spec : {M : Type 1} → statement M
 act-spec =
     tie.close
     (tie.spec
+    offered-requires
     enum-told
     loaded-requires
-    begun-requires
+    begun-if-requires
     enum-told-2
     width-of-requires
     started-requires
-    begun-requires-2
+    begun-if-requires-2
     enum-known-event
     drive-step-requires
     enum-told-3

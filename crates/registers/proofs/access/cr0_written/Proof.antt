@@ -4,12 +4,12 @@ use borrow.Author.Needs.{needs}
 use Rattle.registers.proofs.access.cr0_written.Statement.{statement}
 use Rattle.registers.proofs.access.cr0_written.Tie as tie
 
-cast-t6 : tie.Need-cast-t6
-cast-t6 c = search needs
+cast-cr0 : tie.Need-cast-cr0
+cast-cr0 c = search needs
 
 returns : tie.Need-returns
 unfolding cr0Written
 returns c = simp model-of
 
 pub cr0-written-spec : {M : Type 1} → statement M
-cr0-written-spec = tie.close (tie.spec cast-t6 returns)
+cr0-written-spec = tie.close (tie.spec cast-cr0 returns)

@@ -69,9 +69,6 @@ enum-known-register c = search needs
 identity-of-requires : tie.Need-identity-of-requires
 identity-of-requires c κs = search needs
 
-cast-result-5 : tie.Need-cast-result-5
-cast-result-5 c = search needs
-
 enum-told-11 : tie.Need-enum-told-11
 enum-told-11 c = search needs
 
@@ -82,7 +79,7 @@ returns : tie.Need-returns
 returns c = rw (c .enum-told .given .1) (simp model-of)
 
 returns-2 : tie.Need-returns-2
-returns-2 c = rw (c .before .enum-told2 .given .1) (simp model-of)
+returns-2 c = rw (c .enum-told2 .given .1) (simp model-of)
 
 returns-3 : tie.Need-returns-3
 returns-3 c = rw (c .before .enum-told3 .given .1) (simp (model-of, c .word-at .ensures))
@@ -123,15 +120,14 @@ read-word-spec =
     (tie.spec
     enum-told
     enum-told-2
-    cast-result
     enum-told-3
     word-at-requires
     enum-told-4
     status-of-requires
     enum-told-5
-    cast-result-2
+    cast-result
     enum-told-6
-    cast-result-3
+    cast-result-2
     enum-told-7
     raw-of-requires
     interrupt-word-requires
@@ -140,10 +136,10 @@ read-word-spec =
     interrupt-word-requires-2
     enum-told-9
     enum-told-10
-    cast-result-4
+    cast-result-3
     enum-known-register
     identity-of-requires
-    cast-result-5
+    cast-result-4
     enum-told-11
     enum-told-12
     returns

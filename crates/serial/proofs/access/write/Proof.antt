@@ -16,19 +16,19 @@ active-of-requires c κs = search needs
 write-requires : tie.Need-write-requires
 write-requires c κs = search needs
 
-enabled-requires-2 : tie.Need-enabled-requires-2
-enabled-requires-2 c κs = search needs
+settings-of-requires-2 : tie.Need-settings-of-requires-2
+settings-of-requires-2 c κs = search needs
 
-cleared-requires : tie.Need-cleared-requires
-cleared-requires c κs = search needs
+while-active-requires : tie.Need-while-active-requires
+while-active-requires c κs = search needs
 
 returns : tie.Need-returns
 unfolding deviceOf writeRefusalOf writeDevice engineAfter
-returns c = record { refusal = rw (← c .before .before .before .before .before .before .settings-of .ensures, ← c .before .before .before .before .before .active-of .ensures) (c .before .before .before .before .write .ensures .refusal); device = rw (← c .before .before .before .before .before .before .settings-of .ensures, ← c .before .before .before .before .before .active-of .ensures, ← c .before .before .before .before .write .ensures .model, ← c .before .before .before .before .before .before .before .enabled .ensures, ← c .before .before .enabled2 .ensures, c .before .if1 .taken, c .cleared .ensures) }
+returns c = record { refusal = rw (← c .before .before .before .before .before .before .settings-of .ensures, ← c .before .before .before .before .before .active-of .ensures) (c .before .before .before .before .write .ensures .refusal); device = rw (← c .before .before .before .before .before .before .settings-of .ensures, ← c .before .before .before .before .before .active-of .ensures, ← c .before .before .before .before .write .ensures .model, ← c .before .before .before .before .before .before .before .enabled .ensures, ← c .before .before .settings-of2 .ensures, c .before .if1 .taken, c .while-active .ensures) }
 
 returns-2 : tie.Need-returns-2
 unfolding deviceOf writeRefusalOf writeDevice engineAfter
-returns-2 c = record { refusal = rw (← c .before .before .before .before .before .settings-of .ensures, ← c .before .before .before .before .active-of .ensures) (c .before .before .before .write .ensures .refusal); device = rw (← c .before .before .before .before .before .settings-of .ensures, ← c .before .before .before .before .active-of .ensures, ← c .before .before .before .write .ensures .model, ← c .before .before .before .before .before .before .enabled .ensures, ← c .before .enabled2 .ensures, c .if1 .left) }
+returns-2 c = record { refusal = rw (← c .before .before .before .before .before .settings-of .ensures, ← c .before .before .before .before .active-of .ensures) (c .before .before .before .write .ensures .refusal); device = rw (← c .before .before .before .before .before .settings-of .ensures, ← c .before .before .before .before .active-of .ensures, ← c .before .before .before .write .ensures .model, ← c .before .before .before .before .before .before .enabled .ensures, c .if1 .left) }
 
 pub write-spec : {M : Type 1} → statement M
 write-spec =
@@ -38,7 +38,7 @@ write-spec =
     settings-of-requires
     active-of-requires
     write-requires
-    enabled-requires-2
-    cleared-requires
+    settings-of-requires-2
+    while-active-requires
     returns
     returns-2)

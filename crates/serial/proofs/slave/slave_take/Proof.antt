@@ -11,12 +11,12 @@ cast-started c = search needs
 started-requires : tie.Need-started-requires
 started-requires c κs = search needs
 
-with-frame-requires : tie.Need-with-frame-requires
-with-frame-requires c κs = search needs
+begun-if-requires : tie.Need-begun-if-requires
+begun-if-requires c κs = search needs
 
 returns : tie.Need-returns
-returns c = rw (c .with-frame .ensures, c .before .started .ensures, c .before .before .before .offered .ensures)
+returns c = rw (c .begun-if .ensures, c .before .started .ensures, c .before .before .before .offered .ensures)
 
 pub slave-take-spec : {M : Type 1} → statement M
 slave-take-spec =
-    tie.close (tie.spec offered-requires cast-started started-requires with-frame-requires returns)
+    tie.close (tie.spec offered-requires cast-started started-requires begun-if-requires returns)
