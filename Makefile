@@ -9,7 +9,7 @@ LIBRARY := $(PL022_ARCHIVE)
 CFLAGS = -std=c11 -D_POSIX_C_SOURCE=200809L -Wall -Wextra -Wpedantic -Wconversion -Wshadow -Werror -O2 -Iinclude
 
 # The first number goes up with a change of calls or record that old programs do not survive, the second with each change request.
-VERSION = 1.5.0
+VERSION = 2.6.0
 SONAME = libpl022.so.$(firstword $(subst ., ,$(VERSION)))
 
 PREFIX = /usr/local

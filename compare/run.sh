@@ -1,7 +1,8 @@
 #!/bin/sh
 # Tests the second program, then compares the proved library with it call by call.
-# Ends with three lines of counts, of frames with SSE clear, of texts and of devices; any
-# difference gives a status other than 0, and so do too few calls on devices or random texts.
+# Ends with four lines of counts, of lost words, of frames with SSE clear, of texts and of
+# devices; any difference gives a status other than 0, and so do too few calls on devices,
+# random texts or lost words.
 # usage: run.sh
 #
 #   PL022_ARCHIVE     the library, a file libpl022.a that must be there;
@@ -18,6 +19,8 @@ SECONDS_AT_MOST=150
 CALLS_AT_LEAST=2000000
 # All that the rounds make, in about a tenth of the time.
 TEXTS_AT_LEAST=1000000
+# More than three times what the cases lose that leave nothing to chance.
+LOST_AT_LEAST=200000
 
 if [ $# -ne 0 ]; then
     echo "usage: run.sh" >&2
@@ -50,7 +53,8 @@ fi
 status=0
 timeout $((SECONDS_AT_MOST + 60)) "$compare" \
     --seed "$SEED" --rounds "$ROUNDS" --seconds "$SECONDS_AT_MOST" \
-    --least "$CALLS_AT_LEAST" --least-texts "$TEXTS_AT_LEAST" || status=$?
+    --least "$CALLS_AT_LEAST" --least-texts "$TEXTS_AT_LEAST" \
+    --least-lost "$LOST_AT_LEAST" || status=$?
 if [ "$status" -eq 124 ]; then
     echo "run: the comparison did not end; compare --trace FILE shows the call" >&2
 fi

@@ -78,6 +78,11 @@ bool call_runs_lines(enum call call)
     return call_lends(call, ROLE_INPUT);
 }
 
+bool call_runs(enum call call)
+{
+    return call_runs_lines(call) || call == CALL_PAIR_RUN;
+}
+
 static void pass_text(const struct request *request, const struct loan loans[ROLES],
                       struct outcome *outcome)
 {
@@ -100,15 +105,35 @@ static void pass_text(const struct request *request, const struct loan loans[ROL
     }
 }
 
-static void pass_record(const struct request *request, const struct loan loans[ROLES],
-                        struct outcome *outcome)
+static void pass_run(const struct request *request, const struct loan loans[ROLES],
+                     struct outcome *outcome)
 {
     const struct loan *record = &loans[ROLE_RECORD];
     const struct loan *second = &loans[ROLE_SECOND];
     const struct loan *input = &loans[ROLE_INPUT];
     const struct loan *output = &loans[ROLE_OUTPUT];
+
+    if (request->call == CALL_PAIR_RUN) {
+        struct pl022_pair_ran ran = pl022_pair_run(record->bytes, record->length,
+                                                   second->bytes, second->length, request->cycles);
+        outcome->refusal = ran.refusal;
+        outcome->lost[ROLE_RECORD] = ran.first;
+        outcome->lost[ROLE_SECOND] = ran.second;
+    } else {
+        struct pl022_ran ran = (request->call == CALL_RUN ? pl022_run : pl022_run_to_idle)(
+            record->bytes, record->length, input->bytes, input->length,
+            output->bytes, output->length);
+        outcome->refusal = ran.refusal;
+        outcome->result = ran.count;
+        outcome->lost[ROLE_RECORD] = ran.lost;
+    }
+}
+
+static void pass_access(const struct request *request, const struct loan loans[ROLES],
+                        struct outcome *outcome)
+{
+    const struct loan *record = &loans[ROLE_RECORD];
     struct pl022_word word = {0, 0};
-    struct pl022_count count = {0, 0};
 
     switch (request->call) {
     case CALL_RESET:
@@ -120,24 +145,28 @@ static void pass_record(const struct request *request, const struct loan loans[R
     case CALL_READ:
         word = pl022_read(record->bytes, record->length, request->offset);
         break;
-    case CALL_WRITE:
+    default:
         word.refusal = pl022_write(record->bytes, record->length, request->offset, request->value);
         break;
-    case CALL_RUN:
-        word.refusal = pl022_run(record->bytes, record->length, input->bytes, input->length,
-                                 output->bytes, output->length);
-        break;
-    case CALL_RUN_TO_IDLE:
-        count = pl022_run_to_idle(record->bytes, record->length, input->bytes, input->length,
-                                  output->bytes, output->length);
-        break;
-    default:
-        word.refusal = pl022_pair_run(record->bytes, record->length,
-                                      second->bytes, second->length, request->cycles);
-        break;
     }
-    outcome->refusal = word.refusal + count.refusal;
-    outcome->result = word.word + count.count;
+    outcome->refusal = word.refusal;
+    outcome->result = word.word;
+}
+
+/* What a call does not answer is 0. */
+static void pass(const struct request *request, const struct loan loans[ROLES],
+                 struct outcome *outcome)
+{
+    outcome->result = 0;
+    outcome->starts = 0;
+    memset(outcome->lost, 0, sizeof outcome->lost);
+    if (call_runs(request->call)) {
+        pass_run(request, loans, outcome);
+    } else if (call_lends(request->call, ROLE_TEXT)) {
+        pass_text(request, loans, outcome);
+    } else {
+        pass_access(request, loans, outcome);
+    }
 }
 
 void call_make(const struct request *request, struct outcome *outcome)
@@ -152,8 +181,7 @@ void call_make(const struct request *request, struct outcome *outcome)
             arena_lend(&loans[role], role, &request->lent[role], stack[role]);
         }
     }
-    outcome->starts = 0;
-    (call_lends(request->call, ROLE_TEXT) ? pass_text : pass_record)(request, loans, outcome);
+    pass(request, loans, outcome);
     for (unsigned role = 0; role < ROLES; role++) {
         bytes_set(&outcome->after[role], loans[role].bytes, loans[role].length);
     }

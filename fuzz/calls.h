@@ -25,6 +25,9 @@ enum role {
 
 enum { LENT_LIMIT = 20480, REFUSALS = PL022_NO_EDITION + 1 };
 
+/* The roles below this are those of records. */
+enum { RECORD_ROLES = ROLE_SECOND + 1 };
+
 /* A place as it lies in the bytes that are lent. */
 enum { PLACE_SIZE = sizeof(uint32_t) };
 
@@ -56,13 +59,15 @@ struct request {
 };
 
 /*
- * result is the word of a read, the count of a run to idle or of a written text, the cycles of
- * a text that was read, and 0 for the others; starts is 0 for all but the last.
+ * result is the word of a read, the count of a run or of a written text, the cycles of a text
+ * that was read, and 0 for the others; starts is 0 for all but the last. lost is what a run
+ * handed up for each record, and 0 for the others.
  */
 struct outcome {
     uint64_t refusal;
     uint64_t result;
     uint64_t starts;
+    struct pl022_lost lost[RECORD_ROLES];
     struct bytes after[ROLES];
 };
 
@@ -81,6 +86,9 @@ bool call_resets(enum call call);
 
 /* Whether the call runs cycles from an input to an output buffer. */
 bool call_runs_lines(enum call call);
+
+/* Whether the call runs cycles. */
+bool call_runs(enum call call);
 
 /* Makes the call on buffers placed at random; fails if a byte around them changed. */
 void call_make(const struct request *request, struct outcome *outcome);

@@ -7,16 +7,16 @@
 #include <stdlib.h>
 #include <string.h>
 
-#include "pl022.h"
+#include "calls.h"
 
 uint32_t __real_pl022_reset(uint8_t *, size_t);
 uint32_t __real_pl022_reset_edition(uint8_t *, size_t, uint32_t);
 struct pl022_word __real_pl022_read(uint8_t *, size_t, uint32_t);
 uint32_t __real_pl022_write(uint8_t *, size_t, uint32_t, uint32_t);
-uint32_t __real_pl022_run(uint8_t *, size_t, const uint8_t *, size_t, uint8_t *, size_t);
-struct pl022_count __real_pl022_run_to_idle(uint8_t *, size_t, const uint8_t *, size_t,
-                                            uint8_t *, size_t);
-uint32_t __real_pl022_pair_run(uint8_t *, size_t, uint8_t *, size_t, uint64_t);
+struct pl022_ran __real_pl022_run(uint8_t *, size_t, const uint8_t *, size_t, uint8_t *, size_t);
+struct pl022_ran __real_pl022_run_to_idle(uint8_t *, size_t, const uint8_t *, size_t,
+                                          uint8_t *, size_t);
+struct pl022_pair_ran __real_pl022_pair_run(uint8_t *, size_t, uint8_t *, size_t, uint64_t);
 struct pl022_count __real_pl022_write_text(const uint8_t *, size_t, const uint32_t *, size_t,
                                            uint8_t *, size_t);
 struct pl022_text __real_pl022_read_text(const uint8_t *, size_t, uint8_t *, size_t,
@@ -36,9 +36,14 @@ enum {
     RUN_CHANGES_INPUT, RUN_HIGH_OUTPUT, RUN_HIDDEN_STATE, RUN_LENGTH_MATTERS, RUN_SKIPS_OUTPUT,
     RUN_SWAPS_ORDER, RUN_CHANGES_ON_REFUSAL, RUN_ABORTS,
     RUN_CHANGES_EDITION, RUN_DROPS_FRAME, RUN_TAKES_WITHOUT_SSE, RUN_LEAVES_A_WORD,
+    RUN_GIVES_NO_COUNT, RUN_LOST_WITH_REFUSAL, RUN_LOST_OF_LAST_CALL,
+    LOST_FIRST, LOST_OLDEST_HELD, LOST_LAST_HELD, LOST_COUNTS_KEPT, LOST_NOT_CUT,
+    LOST_MISSES_LAST_CYCLE, LOST_COUNTS_ONE, LOST_NONE_WHILE_ROR, LOST_NONE_WITHOUT_SSE,
     IDLE_WRITES_PAST_COUNT, IDLE_COUNT_WITH_REFUSAL, IDLE_COUNT_LESS, IDLE_LATE,
+    IDLE_LOST_WITH_REFUSAL, IDLE_MISSES_LAST_CYCLE,
     PAIR_WRITES_BEHIND, PAIR_ONE_MORE, PAIR_CYCLES_MATTER, PAIR_CHANGES_ON_REFUSAL,
-    PAIR_SERVES_UNSOUND,
+    PAIR_SERVES_UNSOUND, PAIR_LOST_WITH_REFUSAL, PAIR_FIRST_FOR_BOTH, PAIR_SWAPS_LOST,
+    PAIR_JOINS_LOST, PAIR_MISSES_LAST_CYCLE, PAIR_LOST_FIRST,
     TEXT_WRITES_PAST_COUNT, TEXT_WRITES_BEHIND, TEXT_COUNT_WITH_REFUSAL, TEXT_COUNT_LESS,
     TEXT_LOWER_CASE, TEXT_OTHER_LINE, TEXT_LIMIT_LESS, TEXT_LOOKS_BEHIND_PLACES,
     TEXT_SWAPS_14_15, TEXT_SWAPS_15_16, TEXT_TAKES_EQUAL_PLACES, TEXT_CHANGES_ON_REFUSAL,
@@ -286,11 +291,94 @@ static void spoil_stopped(uint8_t *record, const uint8_t *before, const uint8_t 
     }
 }
 
-uint32_t __wrap_pl022_run(uint8_t *record, size_t record_len, const uint8_t *input,
-                          size_t input_len, uint8_t *output, size_t output_len)
+static uint64_t held_word(const uint8_t *record, size_t n)
+{
+    const uint8_t *place = record + PL022_RECORD_RX_QUEUE + 2 * n;
+
+    return place[0] | (uint64_t)place[1] << 8;
+}
+
+/* What a device with this record loses in the first of these cycles. */
+static struct pl022_lost lost_in(const uint8_t *record, const uint8_t *input, size_t cycles)
+{
+    static uint8_t output[LENT_LIMIT];
+    uint8_t copy[PL022_RECORD_LENGTH];
+
+    memcpy(copy, record, sizeof copy);
+    return __real_pl022_run(copy, sizeof copy, input, cycles, output, cycles).lost;
+}
+
+/* The first word lost, where some are. */
+static uint64_t first_lost(const uint8_t *record, const uint8_t *input)
+{
+    size_t cycles = 1;
+
+    while (lost_in(record, input, cycles).count == 0) {
+        cycles++;
+    }
+    return lost_in(record, input, cycles).last;
+}
+
+/*
+ * What goes wrong with the lost words of a done run; before and after are its records. It does so
+ * every time: otherwise the same call made twice would show it.
+ */
+static void spoil_lost(const uint8_t *before, const uint8_t *after, const uint8_t *input,
+                       struct pl022_ran *answer)
+{
+    struct pl022_lost *lost = &answer->lost;
+    uint64_t kept = (uint64_t)after[PL022_RECORD_RX_COUNT] - before[PL022_RECORD_RX_COUNT];
+    bool some = lost->count > 0;
+
+    if (chosen(LOST_FIRST) && lost->count > 1) {
+        lost->last = first_lost(before, input);
+    }
+    if (chosen(LOST_OLDEST_HELD) && some) {
+        lost->last = held_word(after, 0);
+    }
+    if (chosen(LOST_LAST_HELD) && some) {
+        lost->last = held_word(after, PL022_QUEUE_WORDS - 1);
+    }
+    if (chosen(LOST_COUNTS_KEPT) && some) {
+        lost->count += kept;
+    }
+    if (chosen(LOST_NOT_CUT) && some) {
+        lost->last |= UINT64_C(2) << (before[PL022_RECORD_CR0] & PL022_CR0_DSS_MASK);
+    }
+    if (chosen(LOST_MISSES_LAST_CYCLE) && some) {
+        *lost = lost_in(before, input, (size_t)answer->count - 1);
+    }
+    if (chosen(LOST_COUNTS_ONE) && some) {
+        lost->count = 1;
+    }
+    if ((chosen(LOST_NONE_WHILE_ROR) && before[PL022_RECORD_ROR] != 0)
+        || (chosen(LOST_NONE_WITHOUT_SSE) && stopped(before, PL022_RECORD_LENGTH))) {
+        *lost = (struct pl022_lost){0, 0};
+    }
+}
+
+/* What goes wrong with the other numbers of a run. */
+static void spoil_ran(struct pl022_ran *answer)
+{
+    static uint64_t last;
+
+    if (due(RUN_GIVES_NO_COUNT, answer->count > 0)) {
+        answer->count = 0;
+    }
+    if (due(RUN_LOST_WITH_REFUSAL, answer->refusal != PL022_DONE)) {
+        answer->lost.last = 1;
+    }
+    if (chosen(RUN_LOST_OF_LAST_CALL)) {
+        last = answer->lost.count > 0 ? answer->lost.last : last;
+        answer->lost.last = last;
+    }
+}
+
+struct pl022_ran __wrap_pl022_run(uint8_t *record, size_t record_len, const uint8_t *input,
+                                  size_t input_len, uint8_t *output, size_t output_len)
 {
     if (due(RUN_SWAPS_ORDER, record_len == PL022_RECORD_LENGTH && input_len != output_len)) {
-        return PL022_BAD_INPUT;
+        return (struct pl022_ran){PL022_BAD_INPUT, 0, {0, 0}};
     }
     if (due(RUN_ABORTS, input_len > 100)) {
         abort();
@@ -301,25 +389,36 @@ uint32_t __wrap_pl022_run(uint8_t *record, size_t record_len, const uint8_t *inp
     uint8_t old = output_len > 0 ? output[output_len - 1] : 0;
     uint8_t before[PL022_RECORD_LENGTH] = {0};
     memcpy(before, record, record_len < sizeof before ? record_len : sizeof before);
-    uint32_t refusal = __real_pl022_run(record, record_len, input, input_len, output, output_len);
-    if (refusal == PL022_DONE && output_len > 0) {
+    struct pl022_ran answer = __real_pl022_run(record, record_len, input, input_len,
+                                               output, output_len);
+    if (answer.refusal == PL022_DONE && output_len > 0) {
         spoil_run(record, input, output, output_len, old);
         if (stopped(before, record_len)) {
             spoil_stopped(record, before, input, output, output_len);
         }
+        spoil_lost(before, record, input, &answer);
     }
-    if (due(RUN_CHANGES_ON_REFUSAL, refusal == PL022_BAD_INPUT)) {
+    if (due(RUN_CHANGES_ON_REFUSAL, answer.refusal == PL022_BAD_INPUT)) {
         output[0] ^= 1;
     }
-    return refusal;
+    spoil_ran(&answer);
+    return answer;
 }
 
-struct pl022_count __wrap_pl022_run_to_idle(uint8_t *record, size_t record_len,
-                                            const uint8_t *input, size_t input_len,
-                                            uint8_t *output, size_t output_len)
+struct pl022_ran __wrap_pl022_run_to_idle(uint8_t *record, size_t record_len,
+                                          const uint8_t *input, size_t input_len,
+                                          uint8_t *output, size_t output_len)
 {
-    struct pl022_count answer = __real_pl022_run_to_idle(record, record_len, input, input_len,
-                                                         output, output_len);
+    uint8_t before[PL022_RECORD_LENGTH] = {0};
+    memcpy(before, record, record_len < sizeof before ? record_len : sizeof before);
+    struct pl022_ran answer = __real_pl022_run_to_idle(record, record_len, input, input_len,
+                                                       output, output_len);
+    if (due(IDLE_LOST_WITH_REFUSAL, answer.refusal != PL022_DONE)) {
+        answer.lost.count = 1;
+    }
+    if (chosen(IDLE_MISSES_LAST_CYCLE) && answer.lost.count > 0) {
+        answer.lost = lost_in(before, input, (size_t)answer.count - 1);
+    }
     bool early = answer.refusal == PL022_DONE && answer.count < input_len;
     if (due(IDLE_WRITES_PAST_COUNT, early)) {
         output[answer.count] ^= 1;
@@ -337,26 +436,78 @@ struct pl022_count __wrap_pl022_run_to_idle(uint8_t *record, size_t record_len,
     return answer;
 }
 
-uint32_t __wrap_pl022_pair_run(uint8_t *first, size_t first_len,
-                               uint8_t *second, size_t second_len, uint64_t cycles)
+/* What a pair with these records loses in so many cycles. */
+static struct pl022_pair_ran pair_lost_in(const uint8_t *first, const uint8_t *second,
+                                          uint64_t cycles)
 {
+    uint8_t one[PL022_RECORD_LENGTH], two[PL022_RECORD_LENGTH];
+
+    memcpy(one, first, sizeof one);
+    memcpy(two, second, sizeof two);
+    return __real_pl022_pair_run(one, sizeof one, two, sizeof two, cycles);
+}
+
+/* The same for a done pair run, which had these records. */
+static void spoil_pair_lost(const uint8_t *first, const uint8_t *second, uint64_t cycles,
+                            struct pl022_pair_ran *answer)
+{
+    struct pl022_lost lost = answer->first;
+    bool some = answer->first.count + answer->second.count > 0;
+
+    if (chosen(PAIR_FIRST_FOR_BOTH)) {
+        answer->second = lost;
+    }
+    if (chosen(PAIR_SWAPS_LOST)) {
+        answer->first = answer->second;
+        answer->second = lost;
+    }
+    if (chosen(PAIR_JOINS_LOST) && answer->second.count > 0 && lost.count > 0) {
+        answer->first.count += answer->second.count;
+        answer->second.count = answer->first.count;
+    }
+    if (chosen(PAIR_MISSES_LAST_CYCLE) && some) {
+        *answer = pair_lost_in(first, second, cycles - 1);
+    }
+    if (chosen(PAIR_LOST_FIRST) && answer->second.count > 1) {
+        uint64_t early = 1;
+        while (pair_lost_in(first, second, early).second.count == 0) {
+            early++;
+        }
+        answer->second.last = pair_lost_in(first, second, early).second.last;
+    }
+}
+
+struct pl022_pair_ran __wrap_pl022_pair_run(uint8_t *first, size_t first_len,
+                                            uint8_t *second, size_t second_len, uint64_t cycles)
+{
+    uint8_t before[2][PL022_RECORD_LENGTH] = {{0}, {0}};
+
+    memcpy(before[0], first, first_len < sizeof before[0] ? first_len : sizeof before[0]);
+    memcpy(before[1], second, second_len < sizeof before[1] ? second_len : sizeof before[1]);
     if (due(PAIR_ONE_MORE, cycles > 5 && cycles < UINT32_MAX)) {
         cycles++;
     }
-    uint32_t refusal = __real_pl022_pair_run(first, first_len, second, second_len, cycles);
-    if (due(PAIR_WRITES_BEHIND, refusal == PL022_DONE)) {
+    struct pl022_pair_ran answer = __real_pl022_pair_run(first, first_len, second, second_len,
+                                                         cycles);
+    if (answer.refusal == PL022_DONE) {
+        spoil_pair_lost(before[0], before[1], cycles, &answer);
+    }
+    if (due(PAIR_WRITES_BEHIND, answer.refusal == PL022_DONE)) {
         second[second_len] = 0;
     }
-    if (chosen(PAIR_CYCLES_MATTER) && refusal == PL022_DONE && cycles % 64 == 63) {
+    if (chosen(PAIR_CYCLES_MATTER) && answer.refusal == PL022_DONE && cycles % 64 == 63) {
         second[PL022_RECORD_RX_WORD] ^= 1;
     }
-    if (due(PAIR_CHANGES_ON_REFUSAL, refusal == PL022_UNSOUND)) {
+    if (due(PAIR_CHANGES_ON_REFUSAL, answer.refusal == PL022_UNSOUND)) {
         second[PL022_RECORD_PINS] ^= 1;
     }
-    if (due(PAIR_SERVES_UNSOUND, refusal == PL022_UNSOUND)) {
-        return PL022_DONE;
+    if (due(PAIR_LOST_WITH_REFUSAL, answer.refusal != PL022_DONE)) {
+        answer.second.last = 1;
     }
-    return refusal;
+    if (due(PAIR_SERVES_UNSOUND, answer.refusal == PL022_UNSOUND)) {
+        answer.refusal = PL022_DONE;
+    }
+    return answer;
 }
 
 /* What goes wrong behind a text that was written. */

@@ -18,7 +18,7 @@ number=0
 missed=0
 while read -r fault; do
     number=$((number + 1))
-    if FUZZ_FAULT=$number "$built/with-faults" "${FUZZ_SEED:-22}" 5 \
+    if FUZZ_FAULT=$number "$built/with-faults" "${FUZZ_SEED:-22}" 20 \
         >"$built/faults.out" 2>"$built/faults.err"; then
         notice=MISSED
         missed=$((missed + 1))
@@ -26,7 +26,7 @@ while read -r fault; do
         notice=$(grep -m 1 -e FAILED -e ERROR "$built/faults.err" || echo "MISSED, other end")
         case $notice in MISSED*) missed=$((missed + 1)) ;; esac
     fi
-    printf '%2d %-48s %s\n' "$number" "$fault" "$notice"
+    printf '%2d %-50s %s\n' "$number" "$fault" "$notice"
 done <<'END'
 reset leaves a byte as it was
 reset takes a record of 127 bytes
@@ -70,15 +70,35 @@ run changes the edition
 run drops a frame with SSE clear in edition 2
 run takes a word with SSE clear
 run leaves a word behind a frame with SSE clear
+run gives no count of its cycles
+run hands up a lost word with a refusal
+run hands up the last word of an earlier call
+run hands up the first word lost for the last
+run hands up the oldest word held
+run hands up the newest word held
+run counts words that were kept as lost
+run hands up a lost word that is not cut
+run misses the word lost in its last cycle
+run counts one lost word whatever was lost
+run loses no word while ROR is up
+run loses no word with SSE clear
 run to idle writes past its count
 run to idle gives a count with a refusal
 run to idle gives a count one too low
 run to idle runs one cycle too many
+run to idle counts a lost word with a refusal
+run to idle misses the word lost in its last cycle
 pair run writes one byte behind the second
 pair run makes one cycle too many
 pair run depends on the number of cycles
 pair run changes a record though refused
 pair run serves an unsound record
+pair run hands up a lost word with a refusal
+pair run gives the first's lost words for both
+pair run exchanges the lost words
+pair run adds up the lost words of both
+pair run misses the word lost in its last cycle
+pair run hands up the first word lost for the last
 write text writes past its count
 write text writes one byte behind the text
 write text gives a count with a refusal

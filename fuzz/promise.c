@@ -3,6 +3,7 @@
 #include <string.h>
 
 #include "arena.h"
+#include "lost.h"
 #include "promise_text.h"
 #include "record.h"
 #include "report.h"
@@ -177,6 +178,7 @@ static void check_refused(const struct request *request, const struct outcome *o
 {
     report_unless(outcome->result == 0 && outcome->starts == 0,
                   "a word or count came with a refusal");
+    report_unless(lost_nothing(outcome), "a lost word came with a refusal");
     for (unsigned role = 0; role < ROLES; role++) {
         check_unchanged(request, outcome, role, "a refused call changed a lent buffer");
     }
@@ -320,7 +322,7 @@ static void check_reset(const struct outcome *outcome, uint32_t edition)
 
 static void check_records(const struct request *request, const struct outcome *outcome)
 {
-    for (unsigned role = ROLE_RECORD; role <= ROLE_SECOND; role++) {
+    for (unsigned role = 0; role < RECORD_ROLES; role++) {
         if (!call_lends(request->call, role)) {
             continue;
         }
@@ -328,6 +330,9 @@ static void check_records(const struct request *request, const struct outcome *o
                       "a done call left an unsound record");
         if (!call_resets(request->call)) {
             check_kept(request, outcome, role);
+        }
+        if (call_runs(request->call)) {
+            lost_check(request, outcome, role);
         }
     }
 }
@@ -350,6 +355,8 @@ static void check_done(const struct request *request, const struct outcome *outc
         check_write(request, outcome);
         break;
     case CALL_RUN:
+        report_unless(outcome->result == request->lent[ROLE_INPUT].length,
+                      "a run counts other cycles than it was lent");
         check_run(request, outcome);
         break;
     case CALL_RUN_TO_IDLE:
@@ -397,9 +404,10 @@ void judge_wide_lengths(void)
                   && pl022_reset_edition(bytes, wide, PL022_EDITION_2) == PL022_WRONG_LENGTH
                   && pl022_read(bytes, wide, PL022_IMSC).refusal == PL022_WRONG_LENGTH
                   && pl022_write(bytes, wide, PL022_IMSC, 1) == PL022_WRONG_LENGTH
-                  && pl022_pair_run(record, sizeof record, bytes, wide, 1) == PL022_WRONG_LENGTH
+                  && pl022_pair_run(record, sizeof record, bytes, wide, 1).refusal
+                         == PL022_WRONG_LENGTH
                   && pl022_run(record, sizeof record, input, sizeof input, bytes, wide)
-                         == PL022_LINES_DIFFER
+                         .refusal == PL022_LINES_DIFFER
                   && pl022_run_to_idle(record, sizeof record, input, sizeof input, bytes, wide)
                          .refusal == PL022_LINES_DIFFER,
                   "a length of more than 32 bits was cut");

@@ -1,6 +1,5 @@
 #include "record.h"
 
-#include <stddef.h>
 #include <string.h>
 
 #include "draw.h"
@@ -132,8 +131,7 @@ uint32_t draw_cr0(uint32_t scr)
          | draw_between(LEAST_DSS, 15) << PL022_CR0_DSS_SHIFT;
 }
 
-/* The bits of a received word: b, but a control byte in a Microwire slave. */
-static uint32_t captured_bits(const uint8_t *record)
+uint32_t record_received_bits(const uint8_t *record)
 {
     bool slave = (record[PL022_RECORD_CR1] & PL022_CR1_MS) != 0;
     bool microwire = (record_cr0(record) & PL022_CR0_FRF_MASK) == PL022_CR0_FRF_MICROWIRE;
@@ -179,7 +177,7 @@ static uint32_t most(const uint8_t *record, const struct field *field)
     case LIMIT_CYCLES:
         return record_h(record) - 1;
     case LIMIT_CAPTURED:
-        return captured_bits(record);
+        return record_received_bits(record);
     default:
         return field->most;
     }
@@ -313,6 +311,17 @@ void record_copy_queue(uint8_t *record, const uint8_t *from)
     memcpy(record + PL022_RECORD_TX_QUEUE, from + PL022_RECORD_TX_QUEUE, 2 * PL022_QUEUE_WORDS);
 }
 
+uint16_t record_received(const uint8_t *record, size_t n)
+{
+    return (uint16_t)get(record, PL022_RECORD_RX_QUEUE + 2 * n, 2);
+}
+
+void record_drain(uint8_t *record)
+{
+    record[PL022_RECORD_RX_COUNT] = 0;
+    memset(record + PL022_RECORD_RX_QUEUE, 0, 2 * PL022_QUEUE_WORDS);
+}
+
 /* 0 to the limit, often one of the ends or next to the upper one. */
 static uint32_t draw_near(uint32_t limit)
 {
@@ -344,6 +353,12 @@ static void forge_registers(uint8_t *record)
     }
 }
 
+static void draw_queues(uint8_t *record)
+{
+    draw_bytes(record + PL022_RECORD_TX_QUEUE, 2U * record[PL022_RECORD_TX_COUNT]);
+    draw_bytes(record + PL022_RECORD_RX_QUEUE, 2U * record[PL022_RECORD_RX_COUNT]);
+}
+
 void record_forge(uint8_t *record)
 {
     memset(record, 0, PL022_RECORD_LENGTH);
@@ -353,8 +368,22 @@ void record_forge(uint8_t *record)
             set(record, fields[i].at, fields[i].size, draw_near(most(record, &fields[i])));
         }
     }
-    draw_bytes(record + PL022_RECORD_TX_QUEUE, 2U * record[PL022_RECORD_TX_COUNT]);
-    draw_bytes(record + PL022_RECORD_RX_QUEUE, 2U * record[PL022_RECORD_RX_COUNT]);
+    draw_queues(record);
+}
+
+void record_before_overrun(uint8_t *record)
+{
+    uint32_t cr0 = draw_cr0(draw_below(2));
+    uint32_t role = draw_one_in(2) ? PL022_CR1_MS : draw_below(2) * PL022_CR1_LBM;
+
+    record_after_reset(record, draw_between(PL022_EDITION_1, PL022_EDITION_2));
+    set(record, PL022_RECORD_CR0, 2, cr0);
+    record[PL022_RECORD_CPSR] = 2;
+    record[PL022_RECORD_CR1] = (uint8_t)(PL022_CR1_SSE | role);
+    record[PL022_RECORD_ROR] = (uint8_t)draw_below(2);
+    record[PL022_RECORD_TX_COUNT] = PL022_QUEUE_WORDS;
+    record[PL022_RECORD_RX_COUNT] = (uint8_t)(PL022_QUEUE_WORDS - draw_below(3));
+    draw_queues(record);
 }
 
 void record_stop(uint8_t *record)

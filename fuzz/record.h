@@ -5,6 +5,7 @@
 #define FUZZ_RECORD_H
 
 #include <stdbool.h>
+#include <stddef.h>
 #include <stdint.h>
 
 #include "pl022.h"
@@ -29,6 +30,9 @@ bool record_stopped(const uint8_t *record);
 /* Enabled or stopped: CR0, CPSR, MS and LBM are fixed. */
 bool record_active(const uint8_t *record);
 
+/* The bits of a received word: b, but a control byte in a Microwire slave. */
+uint32_t record_received_bits(const uint8_t *record);
+
 /* The rules for sound records of docs/MODEL.md. */
 bool record_sound(const uint8_t *record);
 
@@ -49,8 +53,20 @@ bool record_engine_clear(const uint8_t *record);
 /* Takes the words to send over from another record. */
 void record_copy_queue(uint8_t *record, const uint8_t *from);
 
+/* Word number n of the receive queue. */
+uint16_t record_received(const uint8_t *record, size_t n);
+
+/* Empties the receive queue. */
+void record_drain(uint8_t *record);
+
 /* A sound record with fields at, near and far from their limits. */
 void record_forge(uint8_t *record);
+
+/*
+ * A sound record of an enabled device that soon loses words: a master with words to send, or a
+ * slave, with slots of few cycles and little room in the receive queue.
+ */
+void record_before_overrun(uint8_t *record);
 
 /* Makes a sound and enabled record one that is stopped in a frame; leaves any other. */
 void record_stop(uint8_t *record);

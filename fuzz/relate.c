@@ -3,6 +3,7 @@
 #include <string.h>
 
 #include "draw.h"
+#include "lost.h"
 #include "promise.h"
 #include "record.h"
 #include "report.h"
@@ -10,9 +11,22 @@
 /* A pair is followed cycle by cycle only if it is short, since each cycle takes two calls. */
 enum { FOLLOWED_CYCLES = 48 };
 
+/*
+ * A word takes eight cycles at least, and the first may be complete at once: an empty receive
+ * queue gets at most six words in these, and loses none.
+ */
+enum { DRAIN_CYCLES = 48, MOST_WORDS = (LENT_LIMIT / DRAIN_CYCLES + 1) * PL022_QUEUE_WORDS };
+
 static struct request part;
 static struct outcome one;
 static struct outcome two;
+
+/* Devices whose receive queues are read in time, and the words read from them. */
+static struct drained {
+    uint8_t record[PL022_RECORD_LENGTH];
+    size_t count;
+    uint16_t words[MOST_WORDS];
+} drained[RECORD_ROLES];
 
 /* Reports the call that the others were compared with, not the last of these. */
 static void agree(bool same, const struct request *request, const struct outcome *outcome,
@@ -57,8 +71,8 @@ static void repeat(const struct request *request, const struct outcome *outcome)
     }
     judge(&part, &one);
     agree(one.refusal == outcome->refusal && one.result == outcome->result
-          && one.starts == outcome->starts && same_records(request, &one, outcome)
-          && same_written(request, &one, outcome),
+          && one.starts == outcome->starts && lost_equal(one.lost, outcome->lost)
+          && same_records(request, &one, outcome) && same_written(request, &one, outcome),
           request, outcome, "the same call on a copy gave something else");
 }
 
@@ -81,7 +95,8 @@ static void other_edition(const struct request *request, const struct outcome *o
     judge(&part, &one);
     one.after[ROLE_RECORD].data[PL022_RECORD_EDITION] ^= 1;
     agree(one.refusal == outcome->refusal && one.result == outcome->result
-          && same_records(request, &one, outcome) && same_written(request, &one, outcome),
+          && lost_equal(one.lost, outcome->lost) && same_records(request, &one, outcome)
+          && same_written(request, &one, outcome),
           request, outcome, "the editions differ where they should not");
 }
 
@@ -114,6 +129,15 @@ static void run_part(const uint8_t *record, const uint8_t *input, size_t cycles,
     judge(&part, outcome);
 }
 
+/* Whether two parts together, the later one second, lost what one call lost. */
+static bool parts_lost(const struct outcome *outcome)
+{
+    for (unsigned role = 0; role < RECORD_ROLES; role++) {
+        lost_add(&one.lost[role], &two.lost[role]);
+    }
+    return lost_equal(one.lost, outcome->lost);
+}
+
 /* A run, or the run that a run to idle made, in two parts. */
 static void split_run(const struct request *request, const struct outcome *outcome)
 {
@@ -128,6 +152,7 @@ static void split_run(const struct request *request, const struct outcome *outco
           && memcmp(one.after[ROLE_OUTPUT].data, output, head) == 0
           && memcmp(two.after[ROLE_OUTPUT].data, output + head, cycles - head) == 0,
           request, outcome, "a run in two parts gave something else");
+    agree(parts_lost(outcome), request, outcome, "a run in two parts lost other words");
 }
 
 static void idle_as_run(const struct request *request, const struct outcome *outcome)
@@ -138,6 +163,8 @@ static void idle_as_run(const struct request *request, const struct outcome *out
     agree(same_records(&part, &one, outcome)
           && memcmp(one.after[ROLE_OUTPUT].data, outcome->after[ROLE_OUTPUT].data, cycles) == 0,
           request, outcome, "a run to idle is no run of its count");
+    agree(lost_equal(one.lost, outcome->lost), request, outcome,
+          "a run to idle lost other words than a run of its count");
 }
 
 /* The lent device, which is stopped in a frame, as one with SSE set and no word to send. */
@@ -180,8 +207,8 @@ static void follow_stopped(const struct request *request, const struct outcome *
         memcpy(expected + PL022_RECORD_PINS, after + PL022_RECORD_PINS,
                PL022_RECORD_TX_COUNT - PL022_RECORD_PINS);
     }
-    agree(same && memcmp(after, expected, PL022_RECORD_LENGTH) == 0, request, outcome,
-          "a frame with SSE clear goes otherwise than one with SSE set");
+    agree(same && lost_equal(one.lost, outcome->lost) && memcmp(after, expected, PL022_RECORD_LENGTH) == 0,
+          request, outcome, "a frame with SSE clear goes otherwise than one with SSE set");
 }
 
 static void pair_part(const uint8_t *first, const uint8_t *second, uint64_t cycles,
@@ -204,14 +231,19 @@ static void split_pair(const struct request *request, const struct outcome *outc
               request->cycles - head, &two);
     agree(same_records(request, &two, outcome),
           request, outcome, "a pair run in two parts gave something else");
+    agree(parts_lost(outcome), request, outcome, "a pair run in two parts lost other words");
 }
 
 static void swap_pair(const struct request *request, const struct outcome *outcome)
 {
     pair_part(request->lent[ROLE_SECOND].data, request->lent[ROLE_RECORD].data,
               request->cycles, &one);
+    struct pl022_lost first = one.lost[ROLE_SECOND];
+    one.lost[ROLE_SECOND] = one.lost[ROLE_RECORD];
+    one.lost[ROLE_RECORD] = first;
     agree(bytes_equal(&one.after[ROLE_RECORD], &outcome->after[ROLE_SECOND])
-          && bytes_equal(&one.after[ROLE_SECOND], &outcome->after[ROLE_RECORD]),
+          && bytes_equal(&one.after[ROLE_SECOND], &outcome->after[ROLE_RECORD])
+          && lost_equal(one.lost, outcome->lost),
           request, outcome, "a pair run depends on which device comes first");
 }
 
@@ -225,6 +257,8 @@ static uint8_t wired(const uint8_t *record)
 
 static void follow_pair(const struct request *request, const struct outcome *outcome)
 {
+    struct pl022_lost sum[RECORD_ROLES] = {{0, 0}, {0, 0}};
+
     if (request->cycles > FOLLOWED_CYCLES) {
         return;
     }
@@ -235,10 +269,81 @@ static void follow_pair(const struct request *request, const struct outcome *out
         uint8_t to_second = wired(one.after[ROLE_RECORD].data);
         run_part(one.after[ROLE_RECORD].data, &to_first, 1, &one);
         run_part(two.after[ROLE_RECORD].data, &to_second, 1, &two);
+        lost_add(&sum[ROLE_RECORD], &one.lost[ROLE_RECORD]);
+        lost_add(&sum[ROLE_SECOND], &two.lost[ROLE_RECORD]);
     }
     agree(bytes_equal(&one.after[ROLE_RECORD], &outcome->after[ROLE_RECORD])
-          && bytes_equal(&two.after[ROLE_RECORD], &outcome->after[ROLE_SECOND]),
+          && bytes_equal(&two.after[ROLE_RECORD], &outcome->after[ROLE_SECOND])
+          && lost_equal(sum, outcome->lost),
           request, outcome, "a pair run differs from runs with the lines wired by hand");
+}
+
+/* The devices as they are lent, but with empty receive queues. */
+static void begin_drained(const struct request *request)
+{
+    for (unsigned role = 0; role < RECORD_ROLES; role++) {
+        if (call_lends(request->call, role)) {
+            memcpy(drained[role].record, request->lent[role].data, PL022_RECORD_LENGTH);
+            record_drain(drained[role].record);
+            drained[role].count = 0;
+        }
+    }
+}
+
+/* Runs some cycles, then empties the receive queues. */
+static void drain_after(const struct request *request, size_t at, size_t cycles)
+{
+    if (request->call == CALL_PAIR_RUN) {
+        pair_part(drained[ROLE_RECORD].record, drained[ROLE_SECOND].record, cycles, &one);
+    } else {
+        run_part(drained[ROLE_RECORD].record, request->lent[ROLE_INPUT].data + at, cycles, &one);
+    }
+    for (unsigned role = 0; role < RECORD_ROLES; role++) {
+        struct drained *device = &drained[role];
+        if (call_lends(request->call, role)) {
+            memcpy(device->record, one.after[role].data, PL022_RECORD_LENGTH);
+            for (size_t n = 0; n < device->record[PL022_RECORD_RX_COUNT]; n++) {
+                device->words[device->count++] = record_received(device->record, n);
+            }
+            record_drain(device->record);
+        }
+    }
+}
+
+/* Words are kept while there is room. The others are lost, and the last of them is handed up. */
+static void check_received(const struct request *request, const struct outcome *outcome,
+                           enum role role)
+{
+    const struct drained *device = &drained[role];
+    const uint8_t *after = outcome->after[role].data;
+    size_t held = request->lent[role].data[PL022_RECORD_RX_COUNT];
+    size_t room = PL022_QUEUE_WORDS - held;
+    size_t kept = device->count < room ? device->count : room;
+    uint16_t last = device->count > kept ? device->words[device->count - 1] : 0;
+    bool same = after[PL022_RECORD_RX_COUNT] == held + kept;
+
+    for (size_t n = 0; same && n < kept; n++) {
+        same = record_received(after, held + n) == device->words[n];
+    }
+    agree(same, request, outcome, "other words were kept than a device receives that is read in time");
+    agree(outcome->lost[role].count == device->count - kept && outcome->lost[role].last == last,
+          request, outcome, "other words were lost than a device receives that is read in time");
+}
+
+/* The same cycles with receive queues that are read in time, which changes nothing else of them. */
+static void run_drained(const struct request *request, const struct outcome *outcome)
+{
+    size_t cycles = (size_t)call_ran(request, outcome);
+
+    begin_drained(request);
+    for (size_t at = 0; at < cycles; at += DRAIN_CYCLES) {
+        drain_after(request, at, cycles - at < DRAIN_CYCLES ? cycles - at : DRAIN_CYCLES);
+    }
+    for (unsigned role = 0; role < RECORD_ROLES; role++) {
+        if (call_lends(request->call, role)) {
+            check_received(request, outcome, role);
+        }
+    }
 }
 
 void relate(const struct request *request, const struct outcome *outcome)
@@ -254,6 +359,8 @@ void relate(const struct request *request, const struct outcome *outcome)
         extend_text(request, outcome);
     } else if (outcome->refusal != PL022_DONE || draw_one_in(3)) {
         repeat(request, outcome);
+    } else if (call_runs(request->call) && draw_one_in(lost_words(outcome) > 0 ? 2 : 8)) {
+        run_drained(request, outcome);
     } else if (call_runs_lines(request->call) && record_stopped(request->lent[ROLE_RECORD].data)) {
         follow_stopped(request, outcome);
     } else if (call_lends(request->call, ROLE_RECORD) && !call_resets(request->call)

@@ -60,8 +60,12 @@ static void print_call(void)
         fputs("  no answer\n", stderr);
         return;
     }
-    fprintf(stderr, "  answer %" PRIu64 " with 0x%" PRIx64 " and 0x%" PRIx64 "\n",
-            current.outcome->refusal, current.outcome->result, current.outcome->starts);
+    const struct pl022_lost *lost = current.outcome->lost;
+    fprintf(stderr, "  answer %" PRIu64 " with 0x%" PRIx64 " and 0x%" PRIx64 ", lost %" PRIu64
+            " last 0x%" PRIx64 ", second %" PRIu64 " last 0x%" PRIx64 "\n",
+            current.outcome->refusal, current.outcome->result, current.outcome->starts,
+            lost[ROLE_RECORD].count, lost[ROLE_RECORD].last,
+            lost[ROLE_SECOND].count, lost[ROLE_SECOND].last);
     for (unsigned role = 0; role < ROLES; role++) {
         if (call_lends(request->call, role)) {
             print_bytes("left", role, &current.outcome->after[role]);

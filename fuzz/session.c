@@ -4,6 +4,7 @@
 
 #include "calls.h"
 #include "draw.h"
+#include "lost.h"
 #include "promise.h"
 #include "record.h"
 #include "relate.h"
@@ -95,7 +96,7 @@ static void submit(enum call call, unsigned which)
         keep_record(ROLE_SECOND, other, other_own);
     }
     bool stopped = call_runs_lines(call) && record_stopped(request.lent[ROLE_RECORD].data);
-    if (stopped || draw_one_in(6)) {
+    if (stopped || draw_one_in(lost_words(&outcome) > 0 ? 2 : 6)) {
         relate(&request, &outcome);
     }
 }
@@ -231,12 +232,12 @@ static void spoil(uint8_t *input, size_t length)
     }
 }
 
-static void draw_lines(void)
+static void draw_lines(size_t cycles)
 {
     struct bytes *input = &request.lent[ROLE_INPUT];
     struct bytes *output = &request.lent[ROLE_OUTPUT];
 
-    input->length = draw_cycles();
+    input->length = cycles;
     draw_levels(input->data, input->length);
     if (draw_one_in(rarity)) {
         spoil(input->data, input->length);
@@ -295,6 +296,28 @@ static void step_set_up_pair(unsigned which)
     submit(CALL_PAIR_RUN, which);
 }
 
+static void forge_before_overrun(unsigned which)
+{
+    devices[which].served = false;
+    record_before_overrun(devices[which].bytes);
+}
+
+/* Words arrive and nobody reads. */
+static void step_overrun(unsigned which)
+{
+    size_t cycles = draw_between(20, 300);
+
+    forge_before_overrun(which);
+    if (draw_one_in(3)) {
+        forge_before_overrun(1 - which);
+        request.cycles = cycles;
+        submit(CALL_PAIR_RUN, which);
+    } else {
+        draw_lines(cycles);
+        submit(draw_one_in(3) ? CALL_RUN_TO_IDLE : CALL_RUN, which);
+    }
+}
+
 static void step_load(unsigned which)
 {
     load(which, draw_between(1, draw_one_in(6) ? 10 : 3));
@@ -309,13 +332,13 @@ static void step_drain(unsigned which)
 
 static void step_run(unsigned which)
 {
-    draw_lines();
+    draw_lines(draw_cycles());
     submit(CALL_RUN, which);
 }
 
 static void step_run_to_idle(unsigned which)
 {
-    draw_lines();
+    draw_lines(draw_cycles());
     submit(CALL_RUN_TO_IDLE, which);
 }
 
@@ -363,7 +386,7 @@ static void step_noise(unsigned which)
     request.value = draw_value();
     /* Several refusals must often be due at once, or their order would not show. */
     rarity = draw_one_in(2) ? OFTEN : SELDOM;
-    draw_lines();
+    draw_lines(draw_cycles());
     request.cycles = draw_below(20);
     if (draw_one_in(16)) {
         reset(which);
@@ -405,12 +428,11 @@ static void start(unsigned which)
         }
         record_overstep(device->bytes);
         break;
-    case 6: case 7: case 8: case 9: case 10:
+    case 6: case 7: case 8: case 9: case 10: case 11: case 12:
         record_forge(device->bytes);
-        break;
-    case 11: case 12:
-        record_forge(device->bytes);
-        record_stop(device->bytes);
+        if (draw_one_in(3)) {
+            record_stop(device->bytes);
+        }
         break;
     default:
         reset(which);
@@ -427,7 +449,7 @@ void session(void)
         {step_set_up, 5},  {step_set_up_pair, 1}, {step_load, 8},     {step_drain, 5},
         {step_run, 12},    {step_run_to_idle, 8}, {step_pair_run, 5}, {step_status, 8},
         {step_disable, 2}, {step_stop, 4},        {step_noise, 20},   {start, 2},
-        {step_text, 6},
+        {step_text, 6},    {step_overrun, 2},
     };
     uint32_t total = 0;
     for (size_t i = 0; i < sizeof steps / sizeof steps[0]; i++) {

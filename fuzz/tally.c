@@ -3,6 +3,7 @@
 #include <inttypes.h>
 #include <stdio.h>
 
+#include "lost.h"
 #include "record.h"
 
 enum { ROLES_OF_DEVICE = 2, SIZES = 16, RAW_BITS = 4 };
@@ -15,8 +16,30 @@ static uint64_t arrivals[FORMATS][ROLES_OF_DEVICE];
 static uint64_t takes[FORMATS][ROLES_OF_DEVICE];
 static uint64_t ends[FORMATS][ROLES_OF_DEVICE];   /* frames that ended with SSE clear */
 static uint64_t resumes[FORMATS][ROLES_OF_DEVICE]; /* frames in which SSE was set again */
+static uint64_t overruns[FORMATS][ROLES_OF_DEVICE]; /* runs that lost words */
+static uint64_t several[FORMATS][ROLES_OF_DEVICE];  /* runs that lost more than one */
+static uint64_t overrun_calls[CALLS];
+static uint64_t overrun_pairs;   /* pair runs in which both devices lost words */
+static uint64_t overrun_stopped; /* runs that lost a word with SSE clear */
+static uint64_t lost_zeros;      /* runs whose last lost word was 0 */
 static uint64_t raw_seen[RAW_BITS];
 static uint64_t full_texts[CALLS];
+
+static void tally_lost(const struct request *request, const struct outcome *outcome,
+                       enum role role)
+{
+    const struct pl022_lost *lost = &outcome->lost[role];
+    const uint8_t *before = request->lent[role].data;
+    unsigned format = record_format(before);
+    unsigned slave = (before[PL022_RECORD_CR1] & PL022_CR1_MS) != 0;
+
+    if (lost->count > 0) {
+        overruns[format][slave]++;
+        several[format][slave] += lost->count > 1;
+        overrun_stopped += record_stopped(before);
+        lost_zeros += lost->last == 0;
+    }
+}
 
 static void tally_run(const struct request *request, const struct outcome *outcome, enum role role)
 {
@@ -25,6 +48,7 @@ static void tally_run(const struct request *request, const struct outcome *outco
     unsigned format = record_format(before);
     unsigned slave = (before[PL022_RECORD_CR1] & PL022_CR1_MS) != 0;
 
+    tally_lost(request, outcome, role);
     if (!record_enabled(before)) {
         ends[format][slave] += record_stopped(before) && !record_stopped(after);
         return;
@@ -50,21 +74,37 @@ static void digest_number(uint64_t number)
     digest = (digest ^ number) * UINT64_C(0x100000001B3);
 }
 
+static void digest_outcome(enum call call, const struct outcome *outcome)
+{
+    digest_number((uint64_t)call << 8 | outcome->refusal);
+    digest_number(outcome->result);
+    digest_number(outcome->starts);
+    for (unsigned role = 0; role < RECORD_ROLES; role++) {
+        digest_number(outcome->lost[role].count);
+        digest_number(outcome->lost[role].last);
+    }
+}
+
+static void tally_runs(const struct request *request, const struct outcome *outcome)
+{
+    tally_run(request, outcome, ROLE_RECORD);
+    if (request->call == CALL_PAIR_RUN) {
+        tally_run(request, outcome, ROLE_SECOND);
+    }
+    overrun_calls[request->call] += lost_words(outcome) > 0;
+    overrun_pairs += outcome->lost[ROLE_RECORD].count > 0 && outcome->lost[ROLE_SECOND].count > 0;
+}
+
 void tally_call(const struct request *request, const struct outcome *outcome)
 {
     calls++;
     answers[request->call][outcome->refusal]++;
-    digest_number((uint64_t)request->call << 8 | outcome->refusal);
-    digest_number(outcome->result);
-    digest_number(outcome->starts);
+    digest_outcome(request->call, outcome);
     if (outcome->refusal != PL022_DONE) {
         return;
     }
-    if (call_runs_lines(request->call)) {
-        tally_run(request, outcome, ROLE_RECORD);
-    } else if (request->call == CALL_PAIR_RUN) {
-        tally_run(request, outcome, ROLE_RECORD);
-        tally_run(request, outcome, ROLE_SECOND);
+    if (call_runs(request->call)) {
+        tally_runs(request, outcome);
     } else if (request->call == CALL_WRITE) {
         tally_write(request);
     } else if (request->call == CALL_READ && request->offset == PL022_RIS) {
@@ -90,6 +130,29 @@ uint64_t tally_digest(void)
     return value;
 }
 
+static void print_formats(void)
+{
+    for (unsigned format = 0; format < FORMATS; format++) {
+        printf("; FRF %u words received %" PRIu64 " as master %" PRIu64 " as slave"
+               ", taken to be sent %" PRIu64 " and %" PRIu64
+               ", frames ended with SSE clear %" PRIu64 " and %" PRIu64
+               ", resumed %" PRIu64 " and %" PRIu64
+               ", runs that lost words %" PRIu64 " and %" PRIu64
+               ", more than one %" PRIu64 " and %" PRIu64,
+               format, arrivals[format][0], arrivals[format][1], takes[format][0], takes[format][1],
+               ends[format][0], ends[format][1], resumes[format][0], resumes[format][1],
+               overruns[format][0], overruns[format][1], several[format][0], several[format][1]);
+    }
+}
+
+static void print_lost(void)
+{
+    printf("; words lost in run %" PRIu64 ", run_to_idle %" PRIu64 ", pair_run %" PRIu64
+           ", by both of a pair %" PRIu64 ", with SSE clear %" PRIu64 ", last of them 0 %" PRIu64,
+           overrun_calls[CALL_RUN], overrun_calls[CALL_RUN_TO_IDLE], overrun_calls[CALL_PAIR_RUN],
+           overrun_pairs, overrun_stopped, lost_zeros);
+}
+
 void tally_print(void)
 {
     for (unsigned call = 0; call < CALLS; call++) {
@@ -100,14 +163,8 @@ void tally_print(void)
             }
         }
     }
-    for (unsigned format = 0; format < FORMATS; format++) {
-        printf("; FRF %u words received %" PRIu64 " as master %" PRIu64 " as slave"
-               ", taken to be sent %" PRIu64 " and %" PRIu64
-               ", frames ended with SSE clear %" PRIu64 " and %" PRIu64
-               ", resumed %" PRIu64 " and %" PRIu64,
-               format, arrivals[format][0], arrivals[format][1], takes[format][0], takes[format][1],
-               ends[format][0], ends[format][1], resumes[format][0], resumes[format][1]);
-    }
+    print_formats();
+    print_lost();
     printf("; texts of %d cycles written %" PRIu64 ", read %" PRIu64, PL022_TEXT_CYCLES,
            full_texts[CALL_WRITE_TEXT], full_texts[CALL_READ_TEXT]);
 }
@@ -133,14 +190,31 @@ static bool formats_complete(void)
                         format, slave);
                 complete = false;
             }
+            if (several[format][slave] == 0) {
+                fprintf(stderr, "fuzz: never lost several words in FRF %u MS %u\n", format, slave);
+                complete = false;
+            }
         }
+    }
+    return complete;
+}
+
+static bool lost_complete(void)
+{
+    bool complete = overrun_calls[CALL_RUN] > 0 && overrun_calls[CALL_RUN_TO_IDLE] > 0
+                 && overrun_calls[CALL_PAIR_RUN] > 0 && overrun_pairs > 0 && overrun_stopped > 0
+                 && lost_zeros > 0;
+    if (!complete) {
+        fputs("fuzz: never lost words in a kind of run, in both of a pair, with SSE clear, "
+              "or a word 0\n", stderr);
     }
     return complete;
 }
 
 bool tally_complete(void)
 {
-    bool complete = formats_complete();
+    bool formats = formats_complete();
+    bool complete = lost_complete() && formats;
     for (unsigned call = 0; call < CALLS; call++) {
         for (unsigned number = 0; number < REFUSALS; number++) {
             if (call_may_answer(call, number) && answers[call][number] == 0) {

@@ -23,6 +23,12 @@
  * A set bit is a HIGH level. nSSPOE HIGH means that the device does not drive TXD.
  * pl022_write_text and pl022_read_text turn output bytes into text and back.
  *
+ * Lost words. A received word that is complete while the receive queue holds eight is lost:
+ * the eight stay, and ROR is set. A run hands up how many words were lost in it and the last
+ * of them; to learn each, run a cycle at a time. The record does not keep this: the counts of
+ * several runs are the host's to add up. A word that a write to DR is refused with 7 for is
+ * not counted: the host still has it.
+ *
  * Editions. A device is of edition 1 or 2. Its reset chooses, and nothing else changes
  * it. They differ where SSE is cleared while a frame is in progress: edition 1 drops the
  * frame, edition 2 lets it go on to its end; with SSE clear neither takes a word. A device
@@ -30,8 +36,8 @@
  *
  * Refusals. Every call answers with a refusal number. 0 means that the call was
  * done. With any other number nothing happened: the record and all buffers are as
- * they were, and a word or count that is returned beside it is 0. When several
- * numbers apply, the first of this table is given (pl022_read_text: see below it):
+ * they were, and whatever is returned beside it is 0. When several numbers apply,
+ * the first of this table is given (pl022_read_text: see below it):
  *
  *     number                    given exactly when                       by
  *     10 PL022_WRONG_LENGTH     the record is not 128 bytes              all that take one
@@ -180,7 +186,7 @@ enum pl022_register {
 #define PL022_SR_BSY 0x10u              /* a frame is in progress, or TFE is 0 */
 
 /* Interrupts: in IMSC a one lets through; RIS is raw, MIS masked; in ICR a one clears ROR or RT. */
-#define PL022_INT_ROR 0x1u              /* overrun: a received word was dropped */
+#define PL022_INT_ROR 0x1u              /* overrun: a received word was lost */
 #define PL022_INT_RT 0x2u               /* timeout: words wait to be read; a new one clears it */
 #define PL022_INT_RX 0x4u               /* four or more words received */
 #define PL022_INT_TX 0x8u               /* four or fewer words to send */
@@ -247,8 +253,39 @@ struct pl022_word {
 };
 
 /*
- * What a run to idle and the writing of a text answer: the cycles run, or the bytes
- * written, with refusal 0; or a refusal number with count 0.
+ * The words that one device lost in one call: how many, and the last of them, as a read of
+ * DR would have given it. last is 0 if count is 0, but a lost word may be 0 too: only count
+ * tells. ROR after the call is 1 exactly if it was 1 before, or count is not 0.
+ */
+struct pl022_lost {
+    uint64_t count;
+    uint64_t last;
+};
+
+/*
+ * What a run and a run to idle answer: how many cycles were run and what was lost in them,
+ * with refusal 0; or a refusal number with all else 0. Up to version 1.5 they answered less,
+ * and pl022_pair_run too: README.md says what to change.
+ */
+struct pl022_ran {
+    uint64_t refusal;
+    uint64_t count;
+    struct pl022_lost lost;
+};
+
+/*
+ * What a pair run answers: what the first and what the second device lost, with refusal 0;
+ * or a refusal number with all else 0.
+ */
+struct pl022_pair_ran {
+    uint64_t refusal;
+    struct pl022_lost first;
+    struct pl022_lost second;
+};
+
+/*
+ * What the writing of a text answers: the bytes written, with refusal 0; or a refusal
+ * number with count 0.
  */
 struct pl022_count {
     uint64_t refusal;
@@ -321,17 +358,18 @@ uint32_t pl022_write(uint8_t *record, size_t record_len, uint32_t offset, uint32
  * pl022_run: runs one cycle for each input byte.
  *
  * Cycle i takes the levels in input[i] and writes the device's lines in that cycle
- * to output[i]. With length 0 no cycle runs and the answer is 0. All input bytes are
- * checked before the first cycle.
+ * to output[i]. With length 0 no cycle runs and the answer is all 0. All input bytes
+ * are checked before the first cycle.
  *
- * Returns     0, or 10, 11, 12, 9.
+ * Returns     the number of cycles run, which is input_len, and what was lost in them,
+ *             with refusal 0; or 10, 11, 12, 9 with all else 0.
  * Unchanged   the input; record and output as well, if refused.
  * Requires    valid pointers to record_len, input_len and output_len bytes that do
  *             not overlap.
  */
-uint32_t pl022_run(uint8_t *record, size_t record_len,
-                   const uint8_t *input, size_t input_len,
-                   uint8_t *output, size_t output_len);
+struct pl022_ran pl022_run(uint8_t *record, size_t record_len,
+                           const uint8_t *input, size_t input_len,
+                           uint8_t *output, size_t output_len);
 
 /*
  * pl022_run_to_idle: runs cycles as pl022_run does, until the device is idle.
@@ -341,15 +379,16 @@ uint32_t pl022_run(uint8_t *record, size_t record_len,
  * and a word in the transmit queue it does not. All input bytes are checked before the
  * first cycle, also those that the run would not reach.
  *
- * Returns     the number of cycles run with refusal 0; or 10, 11, 12, 9 with count 0.
+ * Returns     the number of cycles run, and what was lost in them, with refusal 0; or 10,
+ *             11, 12, 9 with all else 0.
  * Unchanged   the input, and the output bytes from output[count] on; record and output
  *             as a whole, if refused.
  * Requires    valid pointers to record_len, input_len and output_len bytes that do
  *             not overlap.
  */
-struct pl022_count pl022_run_to_idle(uint8_t *record, size_t record_len,
-                                     const uint8_t *input, size_t input_len,
-                                     uint8_t *output, size_t output_len);
+struct pl022_ran pl022_run_to_idle(uint8_t *record, size_t record_len,
+                                   const uint8_t *input, size_t input_len,
+                                   uint8_t *output, size_t output_len);
 
 /*
  * pl022_pair_run: runs two devices, wired together, for a number of cycles.
@@ -357,19 +396,19 @@ struct pl022_count pl022_run_to_idle(uint8_t *record, size_t record_len,
  * In each cycle the input of either device is the other's output in the cycle before:
  * CLK and FSS as driven, RXD the other's TXD, LOW where the other releases it. Accesses
  * between calls do not change what the next cycle sees. With 0 cycles nothing runs
- * and the answer is 0.
+ * and the answer is all 0.
  *
  * The first cycle sees the output of the other's last cycle, whichever call ran it:
  * docs/DRIVERS.md says how to start a pair. The call gives no lines; to record them run
  * one cycle at a time and look at PL022_RECORD_LINES in each record.
  *
- * Returns     0; or 10 if either record is not 128 bytes long, then 9 if either is not
- *             sound.
+ * Returns     what each device lost, with refusal 0; or 10 if either record is not 128
+ *             bytes long, then 9 if either is not sound, with all else 0.
  * Unchanged   both records, if refused.
  * Requires    valid pointers to first_len and second_len bytes that do not overlap.
  */
-uint32_t pl022_pair_run(uint8_t *first, size_t first_len,
-                        uint8_t *second, size_t second_len, uint64_t cycles);
+struct pl022_pair_ran pl022_pair_run(uint8_t *first, size_t first_len,
+                                     uint8_t *second, size_t second_len, uint64_t cycles);
 
 /*
  * pl022_write_text: writes a recording as text, one frame a line.

@@ -2,6 +2,8 @@
 
 use crate::command::{hex, numbers, Command};
 use crate::model::Model;
+use crate::overruns::{contradicts_itself, Overruns};
+use crate::ran::Lost;
 use crate::record::LENGTH;
 use crate::session::{Outcome, Session, PREFILL, PREFILL_NUMBER};
 use crate::stopped::Stopped;
@@ -57,6 +59,7 @@ pub struct Counts {
     pub cycles: u64,
     /// Of edition 2: frames that SSE was cleared in.
     pub stopped: Stopped,
+    pub overruns: Overruns,
     pub write_text: Tally,
     pub read_text: Tally,
     /// Texts drawn by chance; each takes several calls.
@@ -79,9 +82,9 @@ impl Counts {
             Command::Reset { .. } | Command::ResetEdition { .. } => self.reset += 1,
             Command::Read { .. } => self.read += 1,
             Command::Write { .. } => self.write += 1,
-            Command::Run { input, .. } => {
+            Command::Run { .. } => {
                 self.run += 1;
-                self.cycles += if done { input.len() as u64 } else { 0 };
+                self.cycles += outcome.value;
             }
             Command::Idle { .. } => {
                 self.idle += 1;
@@ -186,8 +189,12 @@ impl<'m> Bench<'m> {
         let other = self.other.call(&command);
         self.counts.add(&command, &one);
         self.counts.stopped.add(&before, &command, one.refusal);
+        self.counts.overruns.add(&before, &command, &one.lost);
+        let found = self
+            .compare(&one, &other)
+            .or_else(|| self.refused_unchanged(&before, &one))
+            .or_else(|| contradicts_itself(&command, &before, &self.other.records, &other));
         self.log.push(command);
-        let found = self.compare(&one, &other).or_else(|| self.refused_unchanged(&before, &one));
         if let Some(what) = found {
             return Err(self.difference(&what, &before, &one, &other));
         }
@@ -225,6 +232,9 @@ impl<'m> Bench<'m> {
         if answers[0] != answers[1] {
             return Some("answers differ".to_string());
         }
+        if one.lost != other.lost {
+            return Some("lost words differ".to_string());
+        }
         if !one.intact || !other.intact {
             return Some("bytes outside the lent buffers, or the input, were written".to_string());
         }
@@ -246,6 +256,7 @@ impl<'m> Bench<'m> {
     fn refused_unchanged(&self, before: &[Vec<u8>; 2], outcome: &Outcome) -> Option<String> {
         let untouched = outcome.value == 0
             && outcome.lines == 0
+            && outcome.lost == [Lost::default(); 2]
             && outcome.output.iter().all(|byte| *byte == PREFILL)
             && outcome.starts.iter().all(|number| *number == PREFILL_NUMBER)
             && *before == self.second.records;
@@ -265,6 +276,9 @@ impl<'m> Bench<'m> {
         {
             text += &format!("# {name} refusal {} value {}", outcome.refusal, outcome.value);
             text += &format!(" output {}\n", hex(&outcome.output));
+            for (device, Lost { count, last }) in outcome.lost.iter().enumerate() {
+                text += &format!("# {name} lost {device} {count} {last:x}\n");
+            }
             if outcome.lines != 0 || !outcome.starts.is_empty() {
                 text += &format!("# {name} lines {}", outcome.lines);
                 text += &format!(" starts {}\n", numbers(&outcome.starts));

@@ -1,6 +1,7 @@
 //! The calls on byte records; a refusal leaves record and buffers as they were.
 
 use crate::device::{refusal, Device, Edition, CLK, DATA, FSS, NSSPOE};
+use crate::ran::{Lost, PairRan, Ran};
 use crate::record::{decode, encode, LENGTH};
 
 /// To the first edition.
@@ -45,62 +46,73 @@ fn try_write(record: &mut [u8], offset: u32, value: u32) -> Result<(), u32> {
     Ok(())
 }
 
-pub fn run(record: &mut [u8], input: &[u8], output: &mut [u8]) -> u32 {
-    try_run(record, input, output).err().unwrap_or(0)
+pub fn run(record: &mut [u8], input: &[u8], output: &mut [u8]) -> Ran {
+    try_run(record, input, output, |_| true).unwrap_or_else(Ran::refused)
 }
 
-fn try_run(record: &mut [u8], input: &[u8], output: &mut [u8]) -> Result<(), u32> {
+pub fn run_to_idle(record: &mut [u8], input: &[u8], output: &mut [u8]) -> Ran {
+    try_run(record, input, output, Device::busy).unwrap_or_else(Ran::refused)
+}
+
+fn try_run(
+    record: &mut [u8],
+    input: &[u8],
+    output: &mut [u8],
+    goes_on: impl Fn(&Device) -> bool,
+) -> Result<Ran, u32> {
     check_buffers(record, input, output)?;
     let mut device = load(record)?;
-    for (pins, lines) in input.iter().zip(output.iter_mut()) {
-        *lines = device.cycle(*pins);
-    }
+    let ran = run_device(&mut device, input, output, goes_on);
     store(record, &device);
-    Ok(())
+    Ok(ran)
 }
 
-/// Refusal number and the number of cycles run.
-pub fn run_to_idle(record: &mut [u8], input: &[u8], output: &mut [u8]) -> (u64, u64) {
-    match try_run_to_idle(record, input, output) {
-        Ok(count) => (0, count),
-        Err(number) => (u64::from(number), 0),
-    }
-}
-
-fn try_run_to_idle(record: &mut [u8], input: &[u8], output: &mut [u8]) -> Result<u64, u32> {
-    check_buffers(record, input, output)?;
-    let mut device = load(record)?;
-    let mut count = 0;
-    for (pins, lines) in input.iter().zip(output.iter_mut()) {
-        if !device.busy() {
+/// A cycle for each input byte, as long as the device goes on.
+pub fn run_device(
+    device: &mut Device,
+    input: &[u8],
+    output: &mut [u8],
+    goes_on: impl Fn(&Device) -> bool,
+) -> Ran {
+    let mut ran = Ran::default();
+    for (pins, lines) in input.iter().zip(output) {
+        if !goes_on(device) {
             break;
         }
-        *lines = device.cycle(*pins);
-        count += 1;
+        let cycle = device.cycle(*pins);
+        *lines = cycle.lines;
+        ran.lost = ran.lost.then(Lost::in_cycle(cycle.lost));
+        ran.count += 1;
     }
-    store(record, &device);
-    Ok(count)
+    ran
 }
 
-pub fn pair_run(first: &mut [u8], second: &mut [u8], cycles: u64) -> u32 {
-    try_pair_run(first, second, cycles).err().unwrap_or(0)
+pub fn pair_run(first: &mut [u8], second: &mut [u8], cycles: u64) -> PairRan {
+    try_pair_run(first, second, cycles).unwrap_or_else(PairRan::refused)
 }
 
-fn try_pair_run(first: &mut [u8], second: &mut [u8], cycles: u64) -> Result<(), u32> {
+fn try_pair_run(first: &mut [u8], second: &mut [u8], cycles: u64) -> Result<PairRan, u32> {
     if first.len() != LENGTH || second.len() != LENGTH {
         return Err(refusal::RECORD_LENGTH);
     }
     let mut one = load(first)?;
     let mut other = load(second)?;
+    let mut ran = PairRan::default();
     for _ in 0..cycles {
-        // Both step from the lines of the cycle before.
-        let (to_one, to_other) = (wired(other.lines), wired(one.lines));
-        one.cycle(to_one);
-        other.cycle(to_other);
+        let lost = pair_cycle(&mut one, &mut other);
+        ran.first = ran.first.then(lost[0]);
+        ran.second = ran.second.then(lost[1]);
     }
     store(first, &one);
     store(second, &other);
-    Ok(())
+    Ok(ran)
+}
+
+/// One cycle of two wired devices, and what each lost: both step from the lines of the cycle
+/// before.
+pub fn pair_cycle(one: &mut Device, other: &mut Device) -> [Lost; 2] {
+    let (to_one, to_other) = (wired(other.lines), wired(one.lines));
+    [one.cycle(to_one), other.cycle(to_other)].map(|cycle| Lost::in_cycle(cycle.lost))
 }
 
 /// Pins that a partner's lines give; released data reads LOW.

@@ -63,7 +63,7 @@ impl Frames {
         if master && state.enabled() && self.master.is_none() {
             self.master = Some(device);
         }
-        let lines = state.cycle(pins);
+        let lines = state.cycle(pins).lines;
         let recording = &mut self.recordings[device];
         if taken {
             recording.places.push(recording.cycles.len() as u32);

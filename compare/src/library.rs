@@ -6,6 +6,7 @@ pub use linked::Library;
 #[cfg(feature = "library")]
 mod linked {
     use crate::model::Model;
+    use crate::ran::{PairRan, Ran};
 
     #[repr(C)]
     #[derive(Clone, Copy)]
@@ -41,7 +42,7 @@ mod linked {
             input_len: usize,
             output: *mut u8,
             output_len: usize,
-        ) -> u32;
+        ) -> Ran;
         fn pl022_run_to_idle(
             record: *mut u8,
             record_len: usize,
@@ -49,14 +50,14 @@ mod linked {
             input_len: usize,
             output: *mut u8,
             output_len: usize,
-        ) -> Count;
+        ) -> Ran;
         fn pl022_pair_run(
             first: *mut u8,
             first_len: usize,
             second: *mut u8,
             second_len: usize,
             cycles: u64,
-        ) -> u32;
+        ) -> PairRan;
         fn pl022_write_text(
             lines: *const u8,
             lines_len: usize,
@@ -97,7 +98,7 @@ mod linked {
             unsafe { pl022_write(record.as_mut_ptr(), record.len(), offset, value) }
         }
 
-        fn run(&self, record: &mut [u8], input: &[u8], output: &mut [u8]) -> u32 {
+        fn run(&self, record: &mut [u8], input: &[u8], output: &mut [u8]) -> Ran {
             unsafe {
                 pl022_run(
                     record.as_mut_ptr(),
@@ -110,8 +111,8 @@ mod linked {
             }
         }
 
-        fn run_to_idle(&self, record: &mut [u8], input: &[u8], output: &mut [u8]) -> (u64, u64) {
-            let answer = unsafe {
+        fn run_to_idle(&self, record: &mut [u8], input: &[u8], output: &mut [u8]) -> Ran {
+            unsafe {
                 pl022_run_to_idle(
                     record.as_mut_ptr(),
                     record.len(),
@@ -120,11 +121,10 @@ mod linked {
                     output.as_mut_ptr(),
                     output.len(),
                 )
-            };
-            (answer.refusal, answer.count)
+            }
         }
 
-        fn pair_run(&self, first: &mut [u8], second: &mut [u8], cycles: u64) -> u32 {
+        fn pair_run(&self, first: &mut [u8], second: &mut [u8], cycles: u64) -> PairRan {
             let (first_len, second_len) = (first.len(), second.len());
             unsafe {
                 pl022_pair_run(

@@ -1,5 +1,6 @@
 //! The calls as a trait, so that two programs can stand side by side.
 
+use crate::ran::{PairRan, Ran};
 use crate::{calls, text};
 
 pub trait Model {
@@ -7,9 +8,9 @@ pub trait Model {
     fn reset_edition(&self, record: &mut [u8], edition: u32) -> u32;
     fn read(&self, record: &mut [u8], offset: u32) -> (u32, u32);
     fn write(&self, record: &mut [u8], offset: u32, value: u32) -> u32;
-    fn run(&self, record: &mut [u8], input: &[u8], output: &mut [u8]) -> u32;
-    fn run_to_idle(&self, record: &mut [u8], input: &[u8], output: &mut [u8]) -> (u64, u64);
-    fn pair_run(&self, first: &mut [u8], second: &mut [u8], cycles: u64) -> u32;
+    fn run(&self, record: &mut [u8], input: &[u8], output: &mut [u8]) -> Ran;
+    fn run_to_idle(&self, record: &mut [u8], input: &[u8], output: &mut [u8]) -> Ran;
+    fn pair_run(&self, first: &mut [u8], second: &mut [u8], cycles: u64) -> PairRan;
     fn write_text(&self, cycles: &[u8], places: &[u32], text: &mut [u8]) -> (u64, u64);
     fn read_text(&self, text: &[u8], cycles: &mut [u8], starts: &mut [u32]) -> (u64, u64, u64);
 }
@@ -34,15 +35,15 @@ impl Model for Second {
         calls::write(record, offset, value)
     }
 
-    fn run(&self, record: &mut [u8], input: &[u8], output: &mut [u8]) -> u32 {
+    fn run(&self, record: &mut [u8], input: &[u8], output: &mut [u8]) -> Ran {
         calls::run(record, input, output)
     }
 
-    fn run_to_idle(&self, record: &mut [u8], input: &[u8], output: &mut [u8]) -> (u64, u64) {
+    fn run_to_idle(&self, record: &mut [u8], input: &[u8], output: &mut [u8]) -> Ran {
         calls::run_to_idle(record, input, output)
     }
 
-    fn pair_run(&self, first: &mut [u8], second: &mut [u8], cycles: u64) -> u32 {
+    fn pair_run(&self, first: &mut [u8], second: &mut [u8], cycles: u64) -> PairRan {
         calls::pair_run(first, second, cycles)
     }
 

@@ -19,7 +19,7 @@ pub fn record_master(cr0: u32, cpsr: u32, words: &[u32]) -> Result<String, u32> 
 pub fn lines_to_rest(device: &mut Device) -> Vec<u8> {
     let mut lines = Vec::new();
     while device.busy() || !device.at_rest() {
-        lines.push(device.cycle(0));
+        lines.push(device.cycle(0).lines);
     }
     lines
 }

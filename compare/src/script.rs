@@ -1,39 +1,70 @@
-//! The command language: one answer line for each command.
+//! The command language: one answer line for each command, and lines of lost words.
 
 use crate::command::{digits, hex, is_short, numbers, Command};
 use crate::device::Device;
+use crate::ran::Lost;
 use crate::record::{at, sound_device};
 use crate::session::{Outcome, Session};
 
+/// The answer to a command.
+#[derive(Clone, PartialEq, Eq, Debug)]
+pub struct Answer {
+    pub line: String,
+    /// What each device lost in it.
+    pub lost: [Lost; 2],
+}
+
+impl Answer {
+    fn plain(line: String) -> Answer {
+        Answer { line, lost: [Lost::default(); 2] }
+    }
+
+    /// The line, then one for each device that lost words.
+    pub fn with_lost(&self) -> String {
+        let mut text = self.line.clone();
+        for (device, Lost { count, last }) in self.lost.iter().enumerate() {
+            if *count > 0 {
+                text += &format!("\n  lost {device} {count} {last:x}");
+            }
+        }
+        text
+    }
+}
+
 /// The answer to one line; None for blank lines and comments.
-pub fn answer_line(session: &mut Session, line: &str) -> Option<String> {
+pub fn answer_line(session: &mut Session, line: &str) -> Option<Answer> {
     let line = line.trim();
     if line.is_empty() || line.starts_with('#') {
         return None;
     }
     Some(match Command::parse(line) {
         Some(command) => answer(session, &command),
-        None => format!("not a command: {line}"),
+        None => Answer::plain(format!("not a command: {line}")),
     })
 }
 
-pub fn answer(session: &mut Session, command: &Command) -> String {
+pub fn answer(session: &mut Session, command: &Command) -> Answer {
     match command {
-        Command::Pair { cycles } => return show_pair(session, *cycles),
-        Command::Save { device } => return hex(&session.records[*device]),
-        Command::Dump { device } => return show_dump(&session.records[*device]),
-        _ => {}
+        Command::Pair { cycles } => show_pair(session, *cycles),
+        Command::Save { device } => Answer::plain(hex(&session.records[*device])),
+        Command::Dump { device } => Answer::plain(show_dump(&session.records[*device])),
+        _ => {
+            let outcome = session.call(command);
+            Answer { line: show_outcome(command, &outcome), lost: outcome.lost }
+        }
     }
-    let outcome = session.call(command);
+}
+
+fn show_outcome(command: &Command, outcome: &Outcome) -> String {
     match command {
         Command::Read { .. } => format!("{} {:x}", outcome.refusal, outcome.value),
         Command::Run { input, output_len, .. } => {
-            let shown = show_output(&outcome, is_short(input, *output_len), outcome.output.len());
+            let shown = show_output(outcome, is_short(input, *output_len), outcome.output.len());
             format!("{} {shown}", outcome.refusal)
         }
         Command::Idle { input, output_len, .. } => {
             let count = outcome.value as usize;
-            let shown = show_output(&outcome, is_short(input, *output_len), count);
+            let shown = show_output(outcome, is_short(input, *output_len), count);
             format!("{} {} {shown}", outcome.refusal, outcome.value)
         }
         Command::WriteText { .. } => {
@@ -58,18 +89,20 @@ fn show_output(outcome: &Outcome, short: bool, shown: usize) -> String {
     }
 }
 
-fn show_pair(session: &mut Session, cycles: u64) -> String {
+fn show_pair(session: &mut Session, cycles: u64) -> Answer {
     let mut lines = [Vec::new(), Vec::new()];
+    let mut lost = [Lost::default(); 2];
     for _ in 0..cycles {
         let outcome = session.call(&Command::PairRun { cycles: 1 });
         if outcome.refusal != 0 {
-            return outcome.refusal.to_string();
+            return Answer::plain(outcome.refusal.to_string());
         }
-        for (shown, record) in lines.iter_mut().zip(&session.records) {
-            shown.push(record[at::LINES]);
+        for device in 0..2 {
+            lines[device].push(session.records[device][at::LINES]);
+            lost[device] = lost[device].then(outcome.lost[device]);
         }
     }
-    format!("{} {}", digits(&lines[0]), digits(&lines[1]))
+    Answer { line: format!("{} {}", digits(&lines[0]), digits(&lines[1])), lost }
 }
 
 fn show_words(words: &[u16]) -> String {

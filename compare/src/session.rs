@@ -2,6 +2,7 @@
 
 use crate::command::Command;
 use crate::model::Model;
+use crate::ran::{Lost, Ran};
 use crate::record::LENGTH;
 
 /// What output buffers hold before a call, so that untouched bytes show.
@@ -61,6 +62,8 @@ pub struct Outcome {
     pub refusal: u64,
     /// The word read, the cycles counted, or the bytes of a text.
     pub value: u64,
+    /// What each device lost.
+    pub lost: [Lost; 2],
     /// The lines of a text that was read.
     pub lines: u64,
     pub output: Vec<u8>,
@@ -108,7 +111,7 @@ impl<'m> Session<'m> {
             }
             Command::Run { device, input, output_len } => {
                 self.lend(*device, input, *output_len, |model, record, input, output| {
-                    (u64::from(model.run(record, input, output)), 0)
+                    model.run(record, input, output)
                 })
             }
             Command::Idle { device, input, output_len } => {
@@ -143,16 +146,19 @@ impl<'m> Session<'m> {
 
     fn lend<F>(&mut self, device: usize, input: &[u8], output_len: usize, call: F) -> Outcome
     where
-        F: Fn(&dyn Model, &mut [u8], &[u8], &mut [u8]) -> (u64, u64),
+        F: Fn(&dyn Model, &mut [u8], &[u8], &mut [u8]) -> Ran,
     {
         let mut record = Lent::new(&self.records[device]);
         let mut pins = Lent::new(input);
         let mut output = Lent::new(&vec![PREFILL; output_len]);
-        let answer = call(self.model, record.content(), pins.content(), output.content());
+        let ran = call(self.model, record.content(), pins.content(), output.content());
         self.records[device].copy_from_slice(record.content());
+        let mut lost = [Lost::default(); 2];
+        lost[device] = ran.lost;
         Outcome {
-            refusal: answer.0,
-            value: answer.1,
+            refusal: ran.refusal,
+            value: ran.count,
+            lost,
             intact: record.intact() && pins.holds(input) && output.intact(),
             output: output.content().to_vec(),
             ..Outcome::default()
@@ -162,10 +168,15 @@ impl<'m> Session<'m> {
     fn pair(&mut self, cycles: u64) -> Outcome {
         let mut first = Lent::new(&self.records[0]);
         let mut second = Lent::new(&self.records[1]);
-        let refusal = self.model.pair_run(first.content(), second.content(), cycles);
+        let ran = self.model.pair_run(first.content(), second.content(), cycles);
         self.records[0].copy_from_slice(first.content());
         self.records[1].copy_from_slice(second.content());
-        Outcome::plain(refusal, 0, first.intact() && second.intact())
+        Outcome {
+            refusal: ran.refusal,
+            lost: [ran.first, ran.second],
+            intact: first.intact() && second.intact(),
+            ..Outcome::default()
+        }
     }
 
     fn write_text(&self, cycles: &[u8], places: &[u32], text_len: usize) -> Outcome {
@@ -196,6 +207,7 @@ impl<'m> Session<'m> {
             intact: lent_text.holds(text) && cycles.intact() && starts.intact(),
             output: cycles.content().to_vec(),
             starts: starts.content().to_vec(),
+            ..Outcome::default()
         }
     }
 }

@@ -3,7 +3,8 @@
 use crate::calls::wired;
 use crate::command::Command;
 use crate::device::offset::CR1;
-use crate::device::{refusal, Device, Format};
+use crate::device::{refusal, Device};
+use crate::kinds::Kinds;
 use crate::record::{at, sound_device};
 use std::fmt;
 
@@ -24,11 +25,8 @@ pub struct Tally {
     pub refused: u64,
 }
 
-/// By format, then master and slave.
 #[derive(Clone, Copy, Default)]
-pub struct Stopped([[Tally; 2]; 3]);
-
-const NAMES: [&str; 3] = ["Motorola", "TI", "Microwire"];
+pub struct Stopped(Kinds<Tally>);
 
 impl Stopped {
     /// Looks at a call that was made on these records.
@@ -47,22 +45,13 @@ impl Stopped {
     }
 
     pub fn of(&self, format: usize, slave: bool) -> &Tally {
-        &self.0[format][usize::from(slave)]
-    }
-
-    fn tally(&mut self, device: &Device) -> &mut Tally {
-        let format = match device.format() {
-            Format::Motorola => 0,
-            Format::Ti => 1,
-            Format::Microwire => 2,
-        };
-        &mut self.0[format][usize::from(device.slave())]
+        self.0.of(format, slave)
     }
 
     fn write(&mut self, record: &[u8], offset: u32, value: u32, refusal: u64) {
         let Some(device) = stopped(record) else { return };
         let waits = !device.tx.is_empty();
-        let tally = self.tally(&device);
+        let tally = self.0.of_device(&device);
         if refusal == u64::from(refusal::ACTIVE) {
             tally.refused += 1;
         } else if refusal == 0 && offset == CR1 && value & SSE != 0 {
@@ -110,7 +99,7 @@ impl Stopped {
         enabled.cycle(pins);
         let passed = enabled.tx.len() < device.tx.len();
         device.cycle(pins);
-        let tally = self.tally(device);
+        let tally = self.0.of_device(device);
         tally.cycles += 1;
         tally.passed += u64::from(passed);
         tally.ended += u64::from(!device.frame);
@@ -140,12 +129,6 @@ impl fmt::Display for Tally {
 
 impl fmt::Display for Stopped {
     fn fmt(&self, f: &mut fmt::Formatter) -> fmt::Result {
-        let mut parts = Vec::new();
-        for (name, tallies) in NAMES.iter().zip(&self.0) {
-            for (role, tally) in ["master", "slave"].iter().zip(tallies) {
-                parts.push(format!("{name} {role} {tally}"));
-            }
-        }
-        write!(f, "SSE clear in a frame: {}", parts.join("; "))
+        write!(f, "SSE clear in a frame: {}", self.0)
     }
 }

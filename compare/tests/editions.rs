@@ -58,7 +58,7 @@ fn set_cr1(record: &mut Record, value: u32) {
 /// A digit for each cycle, the pins LOW.
 fn lines(record: &mut Record, cycles: usize) -> String {
     let mut output = vec![0; cycles];
-    assert_eq!(run(record, &vec![0; cycles], &mut output), 0);
+    assert_eq!(run(record, &vec![0; cycles], &mut output).refusal, 0);
     output.iter().map(|lines| format!("{lines:X}")).collect()
 }
 
@@ -239,7 +239,8 @@ fn run_to_idle_waits_for_the_frame() {
         stopped_after(&mut record, 1, 3);
         let mut output = [0xEE; 20];
         // With a word waiting BSY stays.
-        assert_eq!(run_to_idle(&mut record, &[0; 20], &mut output), (0, count));
+        let ran = run_to_idle(&mut record, &[0; 20], &mut output);
+        assert_eq!((ran.refusal, ran.count), (0, count));
         assert_eq!(output[..8], [0, 1, 4, 5, 0, 1, 0, 0xA]);
         assert_eq!(output[8], if count == 8 { 0xEE } else { 0xA });
     }
@@ -287,7 +288,7 @@ fn see(record: &mut Record, digits: &str, writes: &[(usize, u32)]) -> String {
             set_cr1(record, *value);
         }
         let mut output = [0];
-        assert_eq!(run(record, &[*pins], &mut output), 0);
+        assert_eq!(run(record, &[*pins], &mut output).refusal, 0);
         if i >= 2 {
             shown += &format!("{:X}", output[0]);
         }
@@ -431,12 +432,12 @@ fn a_microwire_slave_starts_no_further_frame() {
 fn stopped_pair(editions: [u32; 2]) -> [Record; 2] {
     let mut first = enabled(editions[0], SPH0, 6, MASTER_OFF, &[0xA]);
     let mut second = enabled(editions[1], SPH0, 1, SLAVE, &[0x9]);
-    assert_eq!(pair_run(&mut first, &mut second, 4), 0);
+    assert_eq!(pair_run(&mut first, &mut second, 4).refusal, 0);
     set_cr1(&mut first, MASTER);
-    assert_eq!(pair_run(&mut first, &mut second, 30), 0);
+    assert_eq!(pair_run(&mut first, &mut second, 30).refusal, 0);
     set_cr1(&mut first, MASTER_OFF);
     set_cr1(&mut second, SLAVE_OFF);
-    assert_eq!(pair_run(&mut first, &mut second, 60), 0);
+    assert_eq!(pair_run(&mut first, &mut second, 60).refusal, 0);
     [first, second]
 }
 
@@ -546,7 +547,8 @@ fn reset_in_a_script() {
         ("reset 1 2", "0", 1),
         ("reset 1", "0", 0),
     ] {
-        assert_eq!(answer_line(&mut session, line), Some(number.to_string()), "{line}");
+        let answer = answer_line(&mut session, line).map(|answer| answer.line);
+        assert_eq!(answer, Some(number.to_string()), "{line}");
         assert_eq!(session.records[1][at::EDITION], byte, "{line}");
     }
     assert_eq!(session.records[0][at::EDITION], 0, "the other device");
@@ -651,9 +653,10 @@ fn odd_slot_0_takes_no_word() {
         (MICROWIRE, "010101010101010189898989898A", 0xA),
     ] {
         let mut device = Device { tx: queue(&[0xF]), sending: 0xF, ..frame(cr0, MASTER_OFF) };
-        let shown: String = digits.chars().map(|_| format!("{:X}", device.cycle(0))).collect();
+        let shown: String =
+            digits.chars().map(|_| format!("{:X}", device.cycle(0).lines)).collect();
         assert_eq!(shown, digits);
-        assert_eq!((device.frame, device.tx.len(), device.cycle(0)), (false, 1, idle));
+        assert_eq!((device.frame, device.tx.len(), device.cycle(0).lines), (false, 1, idle));
     }
 }
 
@@ -682,12 +685,12 @@ fn odd_slaves_send_zeros() {
     ] {
         let odd = Device { captured: 2, sending: 0xF, selected: true, ..frame(cr0, SLAVE_OFF) };
         let mut slave = Device { pins, tx: queue(&[0xF]), ..odd };
-        assert_eq!((slave.cycle(0), parts(&slave)), (lines, after), "cr0 {cr0:x} {pins:?}");
+        assert_eq!((slave.cycle(0).lines, parts(&slave)), (lines, after), "cr0 {cr0:x} {pins:?}");
         assert_eq!(slave.tx.len(), 1);
     }
     let odd = Device { captured: 2, sending: 0xF, mark: true, ..frame(TI, SLAVE_OFF) };
     let mut slave = Device { pins: rise, tx: queue(&[0xF]), ..odd };
-    assert_eq!((slave.cycle(0), parts(&slave)), (0x2, (true, false, false, 0, 0)));
+    assert_eq!((slave.cycle(0).lines, parts(&slave)), (0x2, (true, false, false, 0, 0)));
     assert_eq!(slave.tx.len(), 1);
 }
 

@@ -66,7 +66,7 @@ fn enabled(format: u32, cr1: u32, h: u32, words: &[u32]) -> Record {
 
 fn cycles(record: &mut Record, input: &[u8]) -> Engine {
     let mut output = vec![0; input.len()];
-    assert_eq!(run(record, input, &mut output), 0);
+    assert_eq!(run(record, input, &mut output).refusal, 0);
     engine(record)
 }
 

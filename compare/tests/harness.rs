@@ -1,8 +1,9 @@
 //! The harness itself: it agrees with itself and finds faults.
 
 use compare::bench::Bench;
-use compare::cases::{bits, random_text, run, run_editions, run_texts, stops, text, Plan};
-use compare::fault::{Faulty, BIT_FAULTS, EDITION_FAULTS, FAULTS};
+use compare::cases::{bits, full, random_text, stops, text};
+use compare::cases::{run, run_editions, run_lost, run_texts, Plan};
+use compare::fault::{Faulty, BIT_FAULTS, EDITION_FAULTS, FAULTS, LOST_FAULTS};
 use compare::fault::{MICROWIRE_FAULTS, TEXT_FAULTS, TIMEOUT_FAULTS};
 use compare::model::Second;
 use compare::random::Random;
@@ -19,7 +20,7 @@ fn no_difference_from_itself() {
 #[test]
 fn each_fault_is_found() {
     for number in 0..FAULTS {
-        let faulty = Faulty(number);
+        let faulty = Faulty::new(number);
         let mut bench = Bench::new(&Second, &faulty);
         assert!(run(&mut bench, &PLAN).is_err(), "fault {number}");
     }
@@ -31,7 +32,7 @@ fn each_fault_is_found() {
 fn these_faults_are_found_soon() {
     for number in MICROWIRE_FAULTS.chain(TIMEOUT_FAULTS) {
         for seed in 1..=10 {
-            let faulty = Faulty(number);
+            let faulty = Faulty::new(number);
             let mut bench = Bench::new(&Second, &faulty);
             let plan = Plan { seed: seed << 32, rounds: 4, limit: None };
             assert!(run(&mut bench, &plan).is_err(), "fault {number}, seed {seed}");
@@ -43,7 +44,7 @@ fn these_faults_are_found_soon() {
 #[test]
 fn single_bits_find_their_faults_alone() {
     for number in BIT_FAULTS {
-        let faulty = Faulty(number);
+        let faulty = Faulty::new(number);
         let mut bench = Bench::new(&Second, &faulty);
         assert!(bits::one_by_one(&mut bench, &mut Random::new(0)).is_err(), "fault {number}");
     }
@@ -53,7 +54,7 @@ fn single_bits_find_their_faults_alone() {
 #[test]
 fn stops_find_their_faults_alone() {
     for number in EDITION_FAULTS {
-        let faulty = Faulty(number);
+        let faulty = Faulty::new(number);
         let mut bench = Bench::new(&Second, &faulty);
         assert!(stops::fixed(&mut bench, &mut Random::new(0)).is_err(), "fault {number}");
         for seed in 1..=10 {
@@ -80,11 +81,55 @@ fn frames_go_on_with_sse_clear() {
     }
 }
 
+/// The full queues find each fault, and random overruns do in some rounds, whatever the seed.
+#[test]
+fn overruns_find_their_faults_alone() {
+    for number in LOST_FAULTS {
+        let faulty = Faulty::new(number);
+        let mut bench = Bench::new(&Second, &faulty);
+        assert!(full::fixed(&mut bench, &mut Random::new(0)).is_err(), "fault {number}");
+        for seed in 1..=10 {
+            let plan = Plan { seed: seed << 32, rounds: 24, limit: None };
+            assert!(run_lost(&mut bench, &plan).is_err(), "fault {number}, seed {seed}");
+        }
+    }
+}
+
+/// Both programs have the fault, so that they agree; what each says against itself shows it.
+/// Not so the wrong word, or one that ROR hides, wherever a run is cut.
+#[test]
+fn one_program_contradicts_itself() {
+    for number in LOST_FAULTS.filter(|number| ![107, 108, 110, 113].contains(number)) {
+        let faulty = [Faulty::new(number), Faulty::new(number)];
+        let mut bench = Bench::new(&faulty[0], &faulty[1]);
+        let plan = Plan { rounds: 50, ..PLAN };
+        assert!(run_lost(&mut bench, &plan).is_err(), "fault {number}");
+    }
+}
+
+/// Words are lost in each format and role: several in a call, 0 as the last, with SSE clear;
+/// and in every call, by either device of a pair and by both.
+#[test]
+fn words_are_lost() {
+    let mut bench = Bench::new(&Second, &Second);
+    let plan = Plan { rounds: 50, ..PLAN };
+    assert!(run_lost(&mut bench, &plan).is_ok());
+    let overruns = bench.counts.overruns;
+    for (format, slave) in (0..3).flat_map(|format| [(format, false), (format, true)]) {
+        let tally = overruns.of(format, slave);
+        let what = format!("format {format}, slave {slave}: {tally:?}");
+        assert!(tally.words > 500 && tally.calls > 150 && tally.several > 50, "{what}");
+        assert!(tally.zero > 20 && tally.stopped > 10, "{what}");
+    }
+    assert!(overruns.run > 500 && overruns.idle > 100, "{overruns}");
+    assert!(overruns.pair.iter().all(|count| *count > 50), "{overruns}");
+}
+
 /// The fixed texts find each fault, and random ones do in a few rounds, whatever the seed.
 #[test]
 fn texts_find_their_faults_alone() {
     for number in TEXT_FAULTS {
-        let faulty = Faulty(number);
+        let faulty = Faulty::new(number);
         let mut bench = Bench::new(&Second, &faulty);
         assert!(text::fixed(&mut bench, &mut Random::new(0)).is_err(), "fault {number}");
         for seed in 1..=10 {

@@ -66,7 +66,7 @@ fn see(record: &mut Record, digits: &str) -> Seen {
     let mut seen = Seen::default();
     for (i, byte) in input.iter().enumerate() {
         let mut lines = [0];
-        assert_eq!(run(record, &[*byte], &mut lines), 0);
+        assert_eq!(run(record, &[*byte], &mut lines).refusal, 0);
         if i < 2 {
             // Still sees what came before.
             continue;
@@ -350,7 +350,8 @@ fn busy_until_the_last_rise() {
     let input = pins(&[HIGH, A5, WAIT, FOUR, END, HIGH].concat());
     let mut output = vec![0xEE; input.len()];
     // Two cycles HIGH, slots 0 to 25, seen two cycles later.
-    assert_eq!(run_to_idle(&mut record, &input, &mut output), (0, 2 + 26 + 2));
+    let ran = run_to_idle(&mut record, &input, &mut output);
+    assert_eq!((ran.refusal, ran.count), (0, 2 + 26 + 2));
     assert_eq!(output[29..31], [6, 0xEE], "the last bit, then nothing");
     // From the first latch on also without a word.
     let mut record = slave(4, SLAVE, &[]);
@@ -381,9 +382,9 @@ fn timeout_counts_from_the_last_rise() {
     // The rise comes now and is seen in the third cycle.
     let input = vec![1; 2 + 63];
     let mut output = vec![0; input.len()];
-    assert_eq!(run(&mut record, &input, &mut output), 0);
+    assert_eq!(run(&mut record, &input, &mut output).refusal, 0);
     assert_eq!((record[at::RT_COUNT], record[at::RT]), (63, 0));
-    assert_eq!(run(&mut record, &[1], &mut [0]), 0);
+    assert_eq!(run(&mut record, &[1], &mut [0]).refusal, 0);
     assert_eq!((record[at::RT_COUNT], record[at::RT]), (0, 1));
 }
 

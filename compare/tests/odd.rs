@@ -50,11 +50,11 @@ fn d95_a_word_is_cut() {
 #[test]
 fn d96_txd_low_by_the_slot_table() {
     let mut motorola = later(SPH0, 0);
-    assert_eq!((motorola.cycle(0), motorola.held), (0x0, true));
+    assert_eq!((motorola.cycle(0).lines, motorola.held), (0x0, true));
     let mut ti = later(TI, 1);
-    assert_eq!((ti.cycle(0), ti.held), (0xA, true));
+    assert_eq!((ti.cycle(0).lines, ti.held), (0xA, true));
     let mut microwire = Device { slot: 19, held: true, ..frame(MICROWIRE, LOOPBACK) };
-    assert_eq!(microwire.cycle(DATA), 0x9);
+    assert_eq!(microwire.cycle(DATA).lines, 0x9);
     assert_eq!(engine(&microwire), (true, 1, true, 0, 0), "captures LOW");
 }
 
@@ -64,7 +64,7 @@ fn d97_slots_without_a_frame() {
         let tx = queue(&[0xF]);
         let mut master = Device { frame: false, slot: 3, held: true, tx, ..frame(cr0, MASTER) };
         for slot in 3..=last {
-            assert_eq!((master.slot, master.held, master.cycle(0)), (slot, true, idle));
+            assert_eq!((master.slot, master.held, master.cycle(0).lines), (slot, true, idle));
         }
         assert_eq!((engine(&master), master.slot), (CLEAR, 0));
         master.cycle(0);
@@ -78,7 +78,7 @@ fn d98_a_frame_in_an_idle_slot() {
         [(SPH0, 10, 4), (SPH1, 11, 4), (0x43, 11, 5), (MICROWIRE, 27, 9), (MICROWIRE, 28, 8)]
     {
         let mut master = later(cr0, slot);
-        assert_eq!(master.cycle(0), lines, "slot {slot}");
+        assert_eq!(master.cycle(0).lines, lines, "slot {slot}");
         master.cycle(0);
         master.cycle(0);
         assert_eq!(engine(&master), CLEAR);
@@ -92,7 +92,7 @@ fn d99_a_frame_before_its_slot_0() {
             let odd = Device { captured: 2, held: true, ..frame(cr0, MASTER) };
             let tx = queue(words);
             let mut master = Device { sending: 0xFF, receiving: 3, tx, ..odd };
-            assert_eq!((master.cycle(0), master.slot), (lines, 1));
+            assert_eq!((master.cycle(0).lines, master.slot), (lines, 1));
             let taken = words.first().copied().unwrap_or(0);
             assert_eq!(engine(&master), (true, 0, false, taken, 0));
         }
@@ -103,11 +103,11 @@ fn d99_a_frame_before_its_slot_0() {
 fn d100_ti_not_joined() {
     let tx = queue(&[5]);
     let mut master = Device { slot: 8, sending: 1, receiving: 7, tx, ..frame(TI, MASTER) };
-    assert_eq!(master.cycle(DATA), 0xB);
+    assert_eq!(master.cycle(DATA).lines, 0xB);
     assert_eq!(engine(&master), (true, 0, true, 5, 7));
-    assert_eq!(master.cycle(DATA), 0xA);
+    assert_eq!(master.cycle(DATA).lines, 0xA);
     assert_eq!(engine(&master), (true, 0, true, 5, 7), "no capture");
-    assert_eq!(master.cycle(DATA), 0x1);
+    assert_eq!(master.cycle(DATA).lines, 0x1);
     assert_eq!(engine(&master), (true, 0, false, 5, 0));
 }
 
@@ -116,7 +116,7 @@ fn d101_a_selected_slave_shows_its_level() {
     for captured in [0, 2, 4] {
         let selected = Device { selected: true, captured, held: true, ..frame(SPH0, SLAVE) };
         let mut slave = Device { frame: false, ..selected };
-        assert_eq!(slave.cycle(0), 0x6);
+        assert_eq!(slave.cycle(0).lines, 0x6);
     }
 }
 
@@ -127,7 +127,7 @@ fn d102_d103_edges_without_selection_or_frame() {
             let odd = Device { captured: 2, sending: 5, receiving: 3, ..frame(SPH0, SLAVE) };
             let mut slave = Device { frame: frame_up, selected, pins: edge(clk, 0), ..odd };
             let before = engine(&slave);
-            assert_eq!(slave.cycle(0), if selected { 0x2 } else { 0xA });
+            assert_eq!(slave.cycle(0).lines, if selected { 0x2 } else { 0xA });
             assert_eq!((engine(&slave), slave.selected), (before, selected));
         }
     }
@@ -144,12 +144,12 @@ fn d104_motorola_all_bits_captured() {
     ] {
         let odd = Device { selected: true, captured: 4, sending: 1, ..frame(cr0, SLAVE) };
         let mut slave = Device { receiving: 7, pins, ..odd };
-        assert_eq!(slave.cycle(0), if held { 0x6 } else { 0x2 });
+        assert_eq!(slave.cycle(0).lines, if held { 0x6 } else { 0x2 });
         assert_eq!(engine(&slave), (false, 4, held, 1, 7));
         assert!(slave.rx.is_empty());
     }
     let mut unselected = Device { captured: 4, pins: edge(CLK, 0), ..frame(SPH1, SLAVE) };
-    assert_eq!((unselected.cycle(0), engine(&unselected)), (0xA, (false, 4, false, 0, 0)));
+    assert_eq!((unselected.cycle(0).lines, engine(&unselected)), (0xA, (false, 4, false, 0, 0)));
 }
 
 #[test]
@@ -162,12 +162,12 @@ fn d104_ti_all_bits_captured() {
         (edge(0, FSS), 0x2, true),
     ] {
         let mut slave = Device { pins, ..full.clone() };
-        assert_eq!(slave.cycle(0), lines);
+        assert_eq!(slave.cycle(0).lines, lines);
         assert_eq!((engine(&slave), slave.mark), (CLEAR, mark));
         assert!(slave.rx.is_empty());
     }
     let mut marked = Device { mark: true, tx: queue(&[9]), pins: edge(CLK, 0), ..full };
-    assert_eq!(marked.cycle(0), 0x6);
+    assert_eq!(marked.cycle(0).lines, 0x6);
     assert_eq!((engine(&marked), marked.mark), ((true, 0, true, 9, 0), false));
 }
 
@@ -176,7 +176,7 @@ fn d105_a_mark_within_a_word() {
     let marked = Device { mark: true, sending: 1, receiving: 7, ..frame(TI, SLAVE) };
     let tx = queue(&[9]);
     let mut rising = Device { captured: 3, tx, pins: edge(CLK, 0), ..marked.clone() };
-    assert_eq!(rising.cycle(0), 0x6);
+    assert_eq!(rising.cycle(0).lines, 0x6);
     assert_eq!((engine(&rising), rising.mark), ((true, 0, true, 9, 0), false));
     assert!(rising.rx.is_empty());
 
@@ -213,7 +213,7 @@ fn microwire_slots_from_the_word_on() {
         {
             let odd = Device { frame, captured, held, receiving: 0xF0, ..microwire(slot, CLK) };
             let mut rising = odd.clone();
-            let lines = rising.cycle(0);
+            let lines = rising.cycle(0).lines;
             let next = rises[usize::from(slot) - 17];
             assert_eq!(rising.slot, next, "rise in {slot}");
             let ended = slot == 24;
@@ -222,7 +222,7 @@ fn microwire_slots_from_the_word_on() {
             assert_eq!(lines, if slot == 17 { 0xA } else { shown }, "rise in {slot}");
 
             let mut falling = Device { pins: edge(0, 0), ..odd };
-            let lines = falling.cycle(0);
+            let lines = falling.cycle(0).lines;
             let next = falls[usize::from(slot) - 17];
             assert_eq!((falling.slot, falling.selected), (next, true), "fall in {slot}");
             let held = if next == slot { held } else { microwire_bit(next) };
@@ -244,17 +244,17 @@ fn microwire_slots_before_the_word() {
             let odd = Device { cr1, slot, held: true, receiving: 2, ..microwire(slot, CLK) };
             let pins = [0, CLK | DATA, 0];
             let mut latch = Device { frame: false, captured: 3, pins, ..odd.clone() };
-            assert_eq!((latch.cycle(0), latch.slot), (0xA, slot));
+            assert_eq!((latch.cycle(0).lines, latch.slot), (0xA, slot));
             assert_eq!(engine(&latch), (true, 4, true, 9, 4 | bit));
         }
         let tx = queue(&[5]);
         let mut taken =
             Device { frame: false, captured: 8, held: true, tx, ..microwire(slot, CLK) };
-        assert_eq!((taken.cycle(0), taken.slot), (0xA, 17));
+        assert_eq!((taken.cycle(0).lines, taken.slot), (0xA, 17));
         assert_eq!(engine(&taken), (true, 0, false, 5, 0));
         assert!(taken.rx.is_empty() && taken.tx.is_empty());
         let mut fall = Device { captured: 8, held: true, receiving: 2, ..microwire(slot, 0) };
-        assert_eq!((fall.cycle(0), fall.slot), (0xA, slot));
+        assert_eq!((fall.cycle(0).lines, fall.slot), (0xA, slot));
         assert_eq!(engine(&fall), (true, 8, true, 9, 2));
     }
 }
@@ -278,7 +278,7 @@ fn microwire_without_a_selection() {
         for clk in [0, CLK] {
             let odd = Device { captured: 8, held: true, receiving: 3, ..microwire(slot, clk) };
             let mut slave = Device { selected: false, ..odd };
-            assert_eq!((slave.cycle(0), slave.slot, slave.selected), (0xA, slot, false));
+            assert_eq!((slave.cycle(0).lines, slave.slot, slave.selected), (0xA, slot, false));
             assert_eq!(engine(&slave), (true, 8, true, 9, 3));
         }
     }
@@ -304,13 +304,13 @@ fn microwire_unused_fields() {
         for (pins, selected) in [([0, 0, FSS], true), ([0, FSS, 0], false), ([0, FSS, FSS], false)]
         {
             let mut slave = Device { pins, ..odd.clone() };
-            assert_eq!((slave.cycle(0), slave.selected), (0xA, selected));
+            assert_eq!((slave.cycle(0).lines, slave.selected), (0xA, selected));
             assert_eq!((slave.mark, slave.gone, slave.slot), (false, 0, 0));
             assert_eq!(engine(&slave), CLEAR);
         }
         // A fall of FSS, then the edge of the same cycle: the first control bit.
         let mut slave = Device { pins: [0, CLK | DATA, FSS], ..odd };
-        assert_eq!((slave.cycle(0), slave.slot, slave.gone), (0xA, 0, 0));
+        assert_eq!((slave.cycle(0).lines, slave.slot, slave.gone), (0xA, 0, 0));
         assert_eq!(engine(&slave), (true, 1, false, 0, 1));
     }
 }

@@ -69,7 +69,7 @@ fn receive(record: &mut [u8], words: u32) {
     for word in 0..words {
         assert_eq!(write(record, DR, word & 15), 0);
         let mut output = [0; 12];
-        assert_eq!(run(record, &[0; 12], &mut output), 0);
+        assert_eq!(run(record, &[0; 12], &mut output).refusal, 0);
     }
 }
 

@@ -38,7 +38,7 @@ fn enabled(cr0: u32, cr1: u32) -> Record {
 
 fn cycles(record: &mut Record, input: &[u8]) {
     let mut output = vec![0; input.len()];
-    assert_eq!(run(record, input, &mut output), 0);
+    assert_eq!(run(record, input, &mut output).refusal, 0);
 }
 
 /// Flag and count.
@@ -339,7 +339,8 @@ fn in_a_run_to_idle() {
     assert_eq!(write(&mut record, DR, 0xA), 0);
     let mut output = [0; 40];
     // Slots 0 to 10.
-    assert_eq!(run_to_idle(&mut record, &[0; 40], &mut output), (0, 11));
+    let ran = run_to_idle(&mut record, &[0; 40], &mut output);
+    assert_eq!((ran.refusal, ran.count), (0, 11));
     assert_eq!(timeout(&record), (0, 1));
 }
 
@@ -363,7 +364,7 @@ fn in_a_pair() {
     assert_eq!(write(master, CR1, MASTER), 0);
     let mut shown = [String::new(), String::new()];
     for _ in 0..52 {
-        assert_eq!(pair_run(master, slave, 1), 0);
+        assert_eq!(pair_run(master, slave, 1).refusal, 0);
         shown[0] += &master[at::RT].to_string();
         shown[1] += &slave[at::RT].to_string();
     }

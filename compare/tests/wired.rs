@@ -1,6 +1,8 @@
-//! A master and a slave wired together, of any editions, bring every word across.
+//! A master and a slave wired together, of any editions, bring every word across, to be kept
+//! or lost.
 
 use compare::calls::{pair_run, read, reset_edition, write};
+use compare::ran::{Lost, PairRan};
 use compare::random::Random;
 use compare::record::{at, LENGTH};
 
@@ -45,13 +47,19 @@ fn busy(record: &mut [u8; LENGTH]) -> bool {
     read(record, 0x0C).1 & 0x10 != 0
 }
 
-/// First eight of all; whether some were lost.
-fn expected(before: &[u32], words: &[u32], b: u32) -> (Vec<u32>, u8) {
+/// The words held, ROR and what was lost: of all words the first eight stay.
+type Received = (Vec<u32>, u8, Lost);
+
+fn expected(before: &[u32], words: &[u32], b: u32) -> Received {
     let mut all = before.to_vec();
     all.extend(words.iter().map(|word| word & (0xFFFF >> (16 - b))));
-    let lost = u8::from(all.len() > 8);
-    all.truncate(8);
-    (all, lost)
+    let gone = all.split_off(all.len().min(8));
+    let last = gone.last().map_or(0, |word| u64::from(*word));
+    (all, u8::from(!gone.is_empty()), Lost { count: gone.len() as u64, last })
+}
+
+fn received(record: &[u8; LENGTH], lost: Lost) -> Received {
+    (held(record), record[at::ROR], lost)
 }
 
 fn slot_total(format: u32, b: u64, n: u64) -> u64 {
@@ -89,8 +97,10 @@ fn one_pair(random: &mut Random, microwire: bool) {
     let before = [held(&master), held(&slave)];
     assert_eq!(write(&mut master, CR1, 2), 0);
     let mut cycles = 0;
+    let mut lost = [Lost::default(); 2];
     while busy(&mut master) {
-        pair_run(&mut master, &mut slave, 1);
+        let ran = pair_run(&mut master, &mut slave, 1);
+        lost = [lost[0].then(ran.first), lost[1].then(ran.second)];
         cycles += 1;
     }
     let n = master_words.len();
@@ -100,11 +110,11 @@ fn one_pair(random: &mut Random, microwire: bool) {
     // A Microwire master sends control bytes.
     let sent = if microwire { 8 } else { b };
     for _ in 0..3 {
-        let (words, lost) = expected(&before[1], &master_words, sent);
-        assert_eq!((held(&slave), slave[at::ROR]), (words, lost), "slave, cr0 {format:x} h {h}");
-        let (words, lost) = expected(&before[0], &answers[..n], b);
-        assert_eq!((held(&master), master[at::ROR]), (words, lost), "master, cr0 {format:x} h {h}");
-        pair_run(&mut master, &mut slave, 97);
+        let words = expected(&before[1], &master_words, sent);
+        assert_eq!(received(&slave, lost[1]), words, "slave, cr0 {format:x} h {h}");
+        let words = expected(&before[0], &answers[..n], b);
+        assert_eq!(received(&master, lost[0]), words, "master, cr0 {format:x} h {h}");
+        assert_eq!(pair_run(&mut master, &mut slave, 97), PairRan::default());
     }
 }
 

@@ -58,21 +58,30 @@ static void cut_words(uint16_t *to, const uint16_t *from, size_t count, unsigned
 
 /* --- Clock and wires --- */
 
-static void run_pair(struct board *board, uint64_t cycles)
+static void run_pair(struct board *board)
 {
-    check("pl022_pair_run", "master and slave", "no register",
-          pl022_pair_run(board->master.record, sizeof board->master.record,
-                         board->slave.record, sizeof board->slave.record, cycles), PL022_DONE);
+    struct port *master = &board->master, *slave = &board->slave;
+    unsigned master_ror = master->record[PL022_RECORD_ROR];
+    unsigned slave_ror = slave->record[PL022_RECORD_ROR];
+    struct pl022_pair_ran ran = pl022_pair_run(master->record, sizeof master->record,
+                                               slave->record, sizeof slave->record, 1);
+
+    check("pl022_pair_run", "master and slave", "no register", (uint32_t)ran.refusal, PL022_DONE);
+    log_lost(master, master_ror, &ran.first, board->cycles);
+    log_lost(slave, slave_ror, &ran.second, board->cycles);
 }
 
 /* As in the wired pair, a level that the peripheral drives reaches the master one cycle later. */
 static void run_peripheral(struct board *board)
 {
+    struct port *master = &board->master;
+    unsigned ror = master->record[PL022_RECORD_ROR];
     uint8_t input = board->peripheral.rxd, output;
+    struct pl022_ran ran = pl022_run(master->record, sizeof master->record,
+                                     &input, 1, &output, 1);
 
-    check("pl022_run", "master", "no register",
-          pl022_run(board->master.record, sizeof board->master.record,
-                    &input, 1, &output, 1), PL022_DONE);
+    check("pl022_run", "master", "no register", (uint32_t)ran.refusal, PL022_DONE);
+    log_lost(master, ror, &ran.lost, board->cycles);
     peripheral_cycle(&board->peripheral, output);
 }
 
@@ -92,7 +101,7 @@ static unsigned next_word_slot(const struct settings *settings)
     return settings->format == PL022_CR0_FRF_TI ? 2 * settings->bits : frame_slots(settings);
 }
 
-/* One cycle at a time, because a pair run leaves only its last lines in the records. */
+/* One cycle at a time: a pair run leaves only its last lines, and a run its last lost word. */
 static void advance(struct board *board, unsigned cycles)
 {
     struct recording *recording = &board->first_frame;
@@ -101,7 +110,7 @@ static void advance(struct board *board, unsigned cycles)
         if (board->peripheral_wired)
             run_peripheral(board);
         else
-            run_pair(board, 1);
+            run_pair(board);
         if (board->cycles % slot_cycles(board->settings) == 0 &&
             recording->slots < frame_slots(board->settings)) {
             recording->lines[recording->slots] = board->master.record[PL022_RECORD_LINES];
@@ -201,15 +210,25 @@ static void compare(const struct board *board, const char *who, const uint16_t *
         exit(EXIT_FAILURE);
 }
 
-static void compare_overruns(const struct board *board, const struct transfer *transfer,
-                             unsigned expected)
+/* The words that a port lost, and the polls that found its overrun flag set. */
+static void compare_lost(const struct board *board, const struct transfer *transfer,
+                         const uint16_t *words, size_t count, unsigned polls)
 {
-    if (transfer->overruns != expected) {
-        fflush(stdout);
+    const struct port *port = transfer->port;
+    char who[32];
+
+    snprintf(who, sizeof who, "%s lost", port->name);
+    compare(board, who, port->lost_words, port->lost, words, count);
+    if (transfer->overruns != polls) {
         fprintf(stderr, "board: %s: %s with %u overruns, expected %u\n", board->title,
-                transfer->port->name, transfer->overruns, expected);
+                port->name, transfer->overruns, polls);
         exit(EXIT_FAILURE);
     }
+}
+
+static void compare_none_lost(const struct board *board, const struct transfer *transfer)
+{
+    compare_lost(board, transfer, NULL, 0, 0);
 }
 
 /* Reads a word off the recorded data line, a bit in every second slot. */
@@ -257,7 +276,7 @@ static const char *format_name(const struct settings *settings)
     }
 }
 
-/* Prints the heading; cycles and recording start again. */
+/* Prints the heading; cycles, recording and lost words start again. */
 static void open_exchange(struct board *board, const struct settings *settings, const char *remark)
 {
     char mode[16] = "";
@@ -266,6 +285,8 @@ static void open_exchange(struct board *board, const struct settings *settings, 
     board->peripheral_wired = false;
     board->cycles = 0;
     board->first_frame.slots = 0;
+    board->master.lost = 0;
+    board->slave.lost = 0;
     if (settings->format == PL022_CR0_FRF_MOTOROLA)
         snprintf(mode, sizeof mode, " SPO %u SPH %u", settings->spo & 1, settings->sph & 1);
     snprintf(board->title, sizeof board->title, "%s%s, %u bits",
@@ -299,7 +320,8 @@ static void begin_pair(struct board *board, struct transfer *master,
     begin(board, master);
     port_setup(&board->slave, &slave_settings, PL022_CR1_MS);
     transfer_start(slave, &board->slave, slave_words, slave_count, board->settings->words);
-    run_pair(board, SETTLE_CYCLES);
+    for (unsigned i = 0; i < SETTLE_CYCLES; i++)
+        run_pair(board);
     port_enable(&board->slave);
     port_enable(&board->master);
 }
@@ -347,8 +369,8 @@ static void exchange_wired(struct board *board, const struct settings *settings,
     compare(board, "slave received", slave.answer, slave.received, to_slave, settings->words);
     compare(board, "master received", master.answer, master.received, to_master, settings->words);
     compare_recording(board, to_slave[0], to_master[0]);
-    compare_overruns(board, &master, 0);
-    compare_overruns(board, &slave, 0);
+    compare_none_lost(board, &master);
+    compare_none_lost(board, &slave);
 }
 
 static void exchange_pair(struct board *board, const struct settings *settings)
@@ -389,35 +411,37 @@ static void exchange_peripheral(struct board *board, const struct settings *sett
             to_peripheral, settings->words);
     compare(board, "master received", master.answer, master.received, to_master, settings->words);
     compare_recording(board, to_peripheral[0], to_master[0]);
-    compare_overruns(board, &master, 0);
+    compare_none_lost(board, &master);
 }
 
 /*
- * The slave's driver is polled only after the message, which is one word longer than its queues.
- * The ninth word is lost and the overrun flag tells so; the ninth answer is zeros, because no word
- * was waiting.
+ * The slave's driver is polled only after the message, which is longer than its queues. The words
+ * from the ninth on are lost; the overrun flag tells so once, the log names each. The answers from
+ * the ninth on are zeros, because no word was waiting. Returns the number of words lost.
  */
-static void exchange_late(struct board *board)
+static size_t exchange_late(struct board *board)
 {
     static const struct settings settings = {
-        PL022_CR0_FRF_MOTOROLA, 0, 1, 8, 12, 0, PL022_QUEUE_WORDS + 1
+        PL022_CR0_FRF_MOTOROLA, 0, 1, 8, 12, 0, MAX_WORDS
     };
     struct transfer master, slave;
-    uint16_t to_slave[PL022_QUEUE_WORDS], to_master[PL022_QUEUE_WORDS + 1] = { 0 };
+    uint16_t to_slave[MAX_WORDS], to_master[MAX_WORDS] = { 0 };
+    const size_t kept = PL022_QUEUE_WORDS, lost = MAX_WORDS - PL022_QUEUE_WORDS;
 
     open_exchange(board, &settings, ", the slave is polled too late");
-    begin_pair(board, &master, &slave, PL022_QUEUE_WORDS);
+    begin_pair(board, &master, &slave, kept);
     exchange(board, &master, NULL);
     transfer_poll(&slave);
     transfer_poll(&slave);      /* finds no overrun: the first poll has cleared the flag */
     print_pair(board, &master, &slave);
 
-    cut_words(to_slave, master_words, PL022_QUEUE_WORDS, settings.bits);
-    cut_words(to_master, slave_words, PL022_QUEUE_WORDS, settings.bits);
-    compare(board, "slave received", slave.answer, slave.received, to_slave, PL022_QUEUE_WORDS);
+    cut_words(to_slave, master_words, settings.words, settings.bits);
+    cut_words(to_master, slave_words, kept, settings.bits);
+    compare(board, "slave received", slave.answer, slave.received, to_slave, kept);
     compare(board, "master received", master.answer, master.received, to_master, settings.words);
-    compare_overruns(board, &master, 0);
-    compare_overruns(board, &slave, 1);
+    compare_none_lost(board, &master);
+    compare_lost(board, &slave, to_slave + kept, lost, 1);
+    return lost;
 }
 
 int main(void)
@@ -446,10 +470,12 @@ int main(void)
         words += exchanges[i].settings.words;
         putchar('\n');
     }
-    exchange_late(&board);
+    size_t lost = exchange_late(&board);
+    putchar('\n');
+    lost += show_overrun();
     putchar('\n');
     unsigned refusals = show_refusals();
-    printf("\n%zu exchanges with %zu words each way as expected, 1 overrun noticed, "
-           "%u refusals as expected\n", count, words, refusals);
+    printf("\n%zu exchanges with %zu words each way, %zu lost words and %u refusals as expected\n",
+           count, words, lost, refusals);
     return fflush(stdout) || ferror(stdout) ? EXIT_FAILURE : EXIT_SUCCESS;
 }

@@ -4,6 +4,7 @@
  *     driver.c     the driver: sets up a port and moves words, by register accesses only
  *     peripheral.c a Microwire peripheral that is no PL022
  *     board.c      the board: clock, wires, the exchanges and the printed report
+ *     overrun.c    the log of lost words, and a port that nobody reads
  *     refusals.c   provokes every refusal once on purpose
  */
 #ifndef BOARD_H
@@ -25,6 +26,8 @@ enum { CONTROL_BITS = 8 };  /* of a Microwire frame */
 struct port {
     const char *name;
     uint8_t record[PL022_RECORD_LENGTH];
+    size_t lost;                /* words lost to overrun in this exchange */
+    uint16_t lost_words[MAX_WORDS];
 };
 
 /* What one exchange needs to know: format, word size, bit rate, length. */
@@ -81,6 +84,17 @@ struct peripheral {
 uint16_t cut(uint16_t word, unsigned bits);
 uint16_t table_word(uint16_t control, unsigned bits);
 void peripheral_cycle(struct peripheral *peripheral, uint8_t lines);
+
+/* overrun.c */
+
+/*
+ * Logs the word that a port lost in one cycle, if it lost one. Ends the program if the overrun
+ * flag, which was ror before the cycle, does not agree.
+ */
+void log_lost(struct port *port, unsigned ror, const struct pl022_lost *lost, unsigned cycle);
+
+/* Returns the number of words lost in one call; ends the program if one is not as expected. */
+unsigned show_overrun(void);
 
 /* refusals.c: returns the number of refusals shown; ends the program if one is not as expected. */
 unsigned show_refusals(void);

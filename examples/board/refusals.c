@@ -97,8 +97,8 @@ static void run_cycle(struct port *port)
 {
     uint8_t input = 0, output;
 
-    check("pl022_run", port->name, "no register",
-          pl022_run(port->record, sizeof port->record, &input, 1, &output, 1), PL022_DONE);
+    struct pl022_ran ran = pl022_run(port->record, sizeof port->record, &input, 1, &output, 1);
+    check("pl022_run", port->name, "no register", (uint32_t)ran.refusal, PL022_DONE);
 }
 
 /* A master of edition 2: one cycle of its first word has run, a second word is in the queue, SSE is 0. */
@@ -133,12 +133,33 @@ static void prepare(struct lent *lent, const struct attempt *attempt)
     }
 }
 
-/* Returns the refusal number; what comes beside it must be 0. */
+/* A run, to idle or not. */
+static uint32_t perform_run(struct lent *lent, const struct attempt *attempt, uint64_t *beside)
+{
+    struct pl022_ran ran =
+        (attempt->call == CALL_RUN ? pl022_run : pl022_run_to_idle)(
+            lent->port.record, PL022_RECORD_LENGTH, lent->input, BUFFER,
+            lent->output, BUFFER - attempt->short_by);
+
+    *beside = ran.count | ran.lost.count | ran.lost.last;
+    return (uint32_t)ran.refusal;
+}
+
+static uint32_t perform_pair(struct lent *lent, const struct attempt *attempt, uint64_t *beside)
+{
+    struct pl022_pair_ran ran =
+        pl022_pair_run(lent->other.record, PL022_RECORD_LENGTH,
+                       lent->port.record, PL022_RECORD_LENGTH - attempt->short_by, 1);
+
+    *beside = ran.first.count | ran.first.last | ran.second.count | ran.second.last;
+    return (uint32_t)ran.refusal;
+}
+
+/* Makes the call and returns its refusal number; what comes beside it must be 0. */
 static uint32_t perform(struct lent *lent, const struct attempt *attempt, uint64_t *beside)
 {
     uint8_t *record = lent->port.record;
     struct pl022_word word;
-    struct pl022_count run;
 
     *beside = 0;
     switch (attempt->call) {
@@ -154,16 +175,10 @@ static uint32_t perform(struct lent *lent, const struct attempt *attempt, uint64
     case CALL_WRITE:
         return pl022_write(record, PL022_RECORD_LENGTH, attempt->offset, attempt->value);
     case CALL_RUN:
-        return pl022_run(record, PL022_RECORD_LENGTH, lent->input, BUFFER,
-                         lent->output, BUFFER - attempt->short_by);
     case CALL_RUN_TO_IDLE:
-        run = pl022_run_to_idle(record, PL022_RECORD_LENGTH, lent->input, BUFFER,
-                                lent->output, BUFFER - attempt->short_by);
-        *beside = run.count;
-        return (uint32_t)run.refusal;
+        return perform_run(lent, attempt, beside);
     default:
-        return pl022_pair_run(lent->other.record, PL022_RECORD_LENGTH,
-                              record, PL022_RECORD_LENGTH - attempt->short_by, 1);
+        return perform_pair(lent, attempt, beside);
     }
 }
 

@@ -106,3 +106,14 @@ enum answer_status answer(const struct command *command, struct bench *bench, FI
     }
     return ANSWER_GIVEN;
 }
+
+/* Begins with blanks, as a diagram does, so that answers can be told from it. */
+void answer_lost(const struct bench *bench, FILE *out)
+{
+    for (unsigned device = 0; device < DEVICES; device++) {
+        const struct pl022_lost *lost = &bench->lost[device];
+        if (lost->count > 0) {
+            fprintf(out, "  lost %u %" PRIu64 " %" PRIx64 "\n", device, lost->count, lost->last);
+        }
+    }
+}

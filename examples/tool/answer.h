@@ -16,4 +16,7 @@ enum answer_status { ANSWER_GIVEN, ANSWER_NO_MEMORY, ANSWER_PAIR_REFUSED };
  */
 enum answer_status answer(const struct command *command, struct bench *bench, FILE *out);
 
+/* Prints a line for each device that lost words in this command. */
+void answer_lost(const struct bench *bench, FILE *out);
+
 #endif

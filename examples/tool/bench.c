@@ -43,6 +43,7 @@ void bench_next(struct bench *bench)
     for (unsigned device = 0; device < DEVICES; device++) {
         bench->recording[device].cycles = 0;
         bench->recording[device].before = bench_last_levels(bench, device);
+        bench->lost[device] = (struct pl022_lost){0, 0};
     }
 }
 
@@ -71,20 +72,24 @@ bool bench_run(struct bench *bench, unsigned device, const uint8_t *input, size_
     if (!reserve(recording, cycles)) {
         return false;
     }
-    if (to_idle) {
-        struct pl022_count answer = pl022_run_to_idle(record, PL022_RECORD_LENGTH, input, cycles,
-                                                      recording->levels, cycles);
-        *refusal = answer.refusal;
-        recording->cycles = (size_t)answer.count;
-    } else {
-        *refusal = pl022_run(record, PL022_RECORD_LENGTH, input, cycles,
-                             recording->levels, cycles);
-        recording->cycles = *refusal == PL022_DONE ? cycles : 0;
-    }
+    struct pl022_ran ran = (to_idle ? pl022_run_to_idle : pl022_run)(
+        record, PL022_RECORD_LENGTH, input, cycles, recording->levels, cycles);
+    *refusal = ran.refusal;
+    recording->cycles = (size_t)ran.count;
+    bench->lost[device] = ran.lost;
     for (size_t n = 0; n < recording->cycles; n++) {
         recording->levels[n] = join_levels(recording->levels[n], input[n]);
     }
     return true;
+}
+
+/* The words that a later part of a command lost. */
+static void add_lost(struct pl022_lost *sum, const struct pl022_lost *part)
+{
+    sum->count += part->count;
+    if (part->count > 0) {
+        sum->last = part->last;
+    }
 }
 
 /* The library's pair run keeps no recording, so each cycle is taken from the records. */
@@ -96,11 +101,14 @@ bool bench_pair(struct bench *bench, size_t cycles, uint64_t *refusal)
         return false;
     }
     for (size_t n = 0; n < cycles; n++) {
-        *refusal = pl022_pair_run(bench->record[0], PL022_RECORD_LENGTH,
-                                  bench->record[1], PL022_RECORD_LENGTH, 1);
-        if (*refusal != PL022_DONE) {
+        struct pl022_pair_ran ran = pl022_pair_run(bench->record[0], PL022_RECORD_LENGTH,
+                                                   bench->record[1], PL022_RECORD_LENGTH, 1);
+        *refusal = ran.refusal;
+        if (ran.refusal != PL022_DONE) {
             return true;
         }
+        add_lost(&bench->lost[0], &ran.first);
+        add_lost(&bench->lost[1], &ran.second);
         for (unsigned device = 0; device < DEVICES; device++) {
             recording[device].levels[n] = bench_last_levels(bench, device);
             recording[device].cycles = n + 1;

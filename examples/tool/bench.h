@@ -1,4 +1,4 @@
-/* bench.h: the two devices of a script and the recordings of one command. */
+/* bench.h: the two devices of a script, and the recordings and lost words of one command. */
 #ifndef BENCH_H
 #define BENCH_H
 
@@ -47,6 +47,7 @@ struct recording {
 struct bench {
     uint8_t record[DEVICES][PL022_RECORD_LENGTH];
     struct recording recording[DEVICES];
+    struct pl022_lost lost[DEVICES]; /* in this command */
 };
 
 /* Two devices as after reset. The bench's bytes must be zero before. */
@@ -54,7 +55,7 @@ void bench_begin(struct bench *bench);
 
 void bench_free(struct bench *bench);
 
-/* Forgets the recordings of the command before. */
+/* Forgets the recordings and lost words of the command before. */
 void bench_next(struct bench *bench);
 
 /* The cycles that this command ran; in a pair both devices ran as many. */

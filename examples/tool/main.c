@@ -76,6 +76,9 @@ static enum status print_answer(struct session *session, const struct command *c
     case ANSWER_GIVEN:
         break;
     }
+    if (session->options->lost) {
+        answer_lost(&session->bench, stdout);
+    }
     if (session->options->diagram) {
         diagram_draw(&session->diagram, &session->bench, session->time, stdout);
     }

@@ -8,11 +8,13 @@
 
 void options_usage(FILE *out)
 {
-    fputs("usage: pl022 [--diagram] [--ascii] [--vcd FILE] [--text FILE] [SCRIPT]\n"
+    fputs("usage: pl022 [--lost] [--diagram] [--ascii] [--vcd FILE] [--text FILE] [SCRIPT]\n"
           "       pl022 text [--ascii] [FILE]\n"
           "Runs a script on two models of the PL022 serial port and prints an answer for\n"
           "each command; or draws a recording that was written with --text. Without SCRIPT\n"
           "or FILE, or with -, standard input is read.\n"
+          "  --lost       print the words lost to overrun after each run, idle and pair: how\n"
+          "               many, and the last of them\n"
           "  --diagram    draw a timing diagram after each run, idle and pair\n"
           "  --ascii      draw with plain ASCII characters\n"
           "  --vcd FILE   write all cycles to FILE as a value change dump\n"
@@ -62,7 +64,8 @@ static bool take_name(struct options *options, const char *word, bool only_names
 /* These switches are for scripts. With a text they are a mistake, not to be ignored. */
 static bool check_command(const struct options *options)
 {
-    const char *misplaced = options->diagram ? "--diagram"
+    const char *misplaced = options->lost ? "--lost"
+                          : options->diagram ? "--diagram"
                           : options->output[OUTPUT_VCD] != NULL ? "--vcd"
                           : options->output[OUTPUT_TEXT] != NULL ? "--text" : NULL;
     return !options->draws_text || misplaced == NULL
@@ -84,6 +87,8 @@ bool options_parse(struct options *options, int count, char **words)
             only_names = true;
         } else if (strcmp(word, "--help") == 0) {
             options->help = true;
+        } else if (strcmp(word, "--lost") == 0) {
+            options->lost = true;
         } else if (strcmp(word, "--diagram") == 0) {
             options->diagram = true;
         } else if (strcmp(word, "--ascii") == 0) {

@@ -13,6 +13,7 @@ enum output { OUTPUT_VCD, OUTPUT_TEXT, OUTPUTS };
 
 struct options {
     bool help;
+    bool lost;
     bool diagram;
     bool ascii;
     bool draws_text;             /* the input is a text to be drawn, not a script */

@@ -42,16 +42,17 @@ static bool is_wanted(const struct recorder *recorder, const struct bench *bench
 }
 
 /* Runs cycle n of the command once more, on the copies: the devices are past it. */
-static uint32_t repeat_cycle(struct recorder *recorder, const struct bench *bench, size_t n)
+static uint64_t repeat_cycle(struct recorder *recorder, const struct bench *bench, size_t n)
 {
     uint8_t(*copy)[PL022_RECORD_LENGTH] = recorder->copy;
     if (bench_ran_pair(bench)) {
-        return pl022_pair_run(copy[0], PL022_RECORD_LENGTH, copy[1], PL022_RECORD_LENGTH, 1);
+        return pl022_pair_run(copy[0], PL022_RECORD_LENGTH, copy[1], PL022_RECORD_LENGTH, 1)
+            .refusal;
     }
     unsigned device = bench->recording[0].cycles > 0 ? 0 : 1;
     uint8_t input = (uint8_t)(bench->recording[device].levels[n] >> LINE_CLK_IN);
     uint8_t output;
-    return pl022_run(copy[device], PL022_RECORD_LENGTH, &input, 1, &output, 1);
+    return pl022_run(copy[device], PL022_RECORD_LENGTH, &input, 1, &output, 1).refusal;
 }
 
 /* Nothing but a frame that begins takes a word out of a master's queue within a cycle. */

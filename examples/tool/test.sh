@@ -2,8 +2,8 @@
 # Tests the tool: test.sh TOOL [OTHER]
 #
 # OTHER is a program that reads the commands of a script on standard input and gives the
-# same answers, and with --text FILE the same text; if it is given, both are compared as
-# well. VECTORS in the environment may name a folder of scripts NN.in with their answers
+# same answers, with --text FILE the same text and with --lost the same lines of lost words;
+# if it is given, both are compared as well. VECTORS in the environment may name a folder of scripts NN.in with their answers
 # NN.out.
 set -eu
 LC_ALL=C
@@ -66,8 +66,8 @@ commands_of() {
     tr -d '\r' <"$1" | sed -e '/^[[:blank:]]*#/d' -e '/^[[:blank:]]*$/d'
 }
 
-# like_other NAME SCRIPT ANSWERS: the answers, and the text of the master's cycles. A text
-# that cannot be written is an empty file, or none.
+# like_other NAME SCRIPT ANSWERS: the answers, the text of the master's cycles and the lost
+# words. A text that cannot be written is an empty file, or none.
 like_other() {
     [ -n "$other" ] || return 0
     commands_of "$2" >"$dir/commands"
@@ -76,12 +76,17 @@ like_other() {
     check "$1 against the other program" same "$3" "$dir/other"
     run --text "$dir/text" "$2"
     check "$1: text against the other program" same "$dir/text" "$dir/other.text"
+    "$other" --lost <"$dir/commands" >"$dir/other" 2>"$dir/err" || true
+    run --lost "$2"
+    check "$1: lost words against the other program" same "$dir/out" "$dir/other"
     compared=$((compared + 1))
 }
 compared=0
 
 takes_text() { "$other" --text "$dir/other.text" </dev/null >"$dir/other" 2>&1; }
 [ -z "$other" ] || check "the other program takes --text" takes_text
+takes_lost() { "$other" --lost </dev/null >"$dir/other" 2>&1; }
+[ -z "$other" ] || check "the other program takes --lost" takes_lost
 
 # ---------------------------------------------------------------- decoders
 
@@ -245,6 +250,14 @@ expected_rows() {
     $1 == "pair" { single(0, "", a[1]); single(1, "", a[2]) }'
 }
 
+# shown PAGE WORDS: the block that follows these words in a page.
+shown() {
+    awk -v words="$2" '
+    /^```/ { if (inside) exit; inside = found; next }
+    inside
+    index($0, words) { found = 1 }' "$1"
+}
+
 # ascii_of FILE: a diagram of line drawing characters as the plain one.
 ascii_of() {
     sed -e 's/▁/_/g' -e 's/▔/-/g' -e 's/⣀/./g' -e "s/⠉/'/g" -e 's/╱/\//g' -e 's/╲/\\/g' "$1"
@@ -292,6 +305,46 @@ texts() {
     check "$1: cycles of the text" same "$dir/want" "$dir/got"
     drawn "$1" "$dir/text"
 }
+
+# wrong_losses SCRIPT OUTPUT: what is wrong with the lost lines in an output. They stand
+# behind runs that were done, device 0 first, and ROR tells of them.
+wrong_losses() {
+    commands_of "$1" | awk -v output="$2" '
+    function take() { more = (getline line <output) > 0 }
+    function wrong(what) { print what " at command " NR ": " line }
+    function lost_line(  b) {
+        split(line, b, " ")
+        if (line !~ /^  lost [01] [1-9][0-9]* (0|[1-9a-f][0-9a-f]*)$/) wrong("no lost line")
+        else if (!ran) wrong("lost without a cycle")
+        else if (b[2] < least || $1 != "pair" && b[2] != $2) wrong("wrong device")
+        least = b[2] + 1
+        ror[b[2]] = 1
+        take()
+    }
+    BEGIN { take() }
+    {
+        split(line, a, " ")
+        done = a[1] == 0
+        if ($1 == "reset" && done || $1 == "w" && done && $3 ~ /^0*20$/ && $4 ~ /[13579bdf]$/) ror[$2] = 0
+        if ($1 == "dump" && line !~ (" ror=" (ror[$2] + 0) " ")) wrong("ROR does not agree")
+        if ($1 == "r" && $3 == 18 && (a[2] ~ /[13579bdf]$/) != ror[$2] + 0) wrong("ROR does not agree")
+        ran = $1 == "pair" || ($1 == "run" || $1 == "idle") && done
+        least = 0
+        take()
+        while (more && line ~ /^ /) lost_line()
+    }
+    END { if (more) wrong("line without a command") }'
+}
+
+# losses NAME SCRIPT ANSWERS: what --lost adds to the answers.
+losses() {
+    run --lost "$2"
+    grep -v '^ ' "$dir/out" >"$dir/plain" || true
+    check "$1: answers with --lost" same "$3" "$dir/plain"
+    check "$1: lost lines" equal "$(wrong_losses "$2" "$dir/out" | head -n 1)" ""
+    lost=$((lost + $(grep -c '^  lost ' "$dir/out" || true)))
+}
+lost=0
 
 # drawn NAME TEXT: both drawings of a text show it.
 drawn() {
@@ -345,7 +398,7 @@ page=$(dirname "$0")/../../docs/SCRIPTS.md
 if [ -e "$page" ]; then
     run --diagram "$scripts/p1.txt"
     cp "$dir/out" "$dir/want"
-    sed -n '/^0$/,/^```$/p' "$page" | sed '/^```$/d' >"$dir/got"
+    shown "$page" 'examples/scripts/p1.txt`' >"$dir/got"
     check "p1: the diagram in the documentation" same "$dir/want" "$dir/got"
 fi
 
@@ -385,6 +438,39 @@ check "editions: answers" equal "$(tr '\n' ';' <"$dir/answers")" \
     "0;0;0;0;0;0;0;0;0;0;0;0;04501 04501;0;0;0;5;aaaaaa 45010a;0;0 12;0 16;8 0;0 a;0;0;0014501454aa 0014501454aa;0 5;0 5;"
 pictures editions "$scripts/editions.txt" "$dir/answers"
 like_other editions "$scripts/editions.txt" "$dir/answers"
+
+# Words lost to overrun: device 0 loses B and 0, device 1 loses 5 and later C.
+cat >"$dir/want" <<'END'
+ba5410547610101010 ba1054105488888888
+  lost 0 2 0
+  lost 1 1 5
+0 d
+0 d
+0 1
+0
+0
+0 10 ba10545454
+0 ba54541010
+  lost 1 1 c
+END
+run --lost "$scripts/lost.txt"
+check "lost: status" equal "$status" 0
+check "lost: answers of the set-up" equal "$(sed -n '1,26p' "$dir/out" | tr '\n' ';')" \
+    "0;0;0;0;0;0;0;0;0;0;0;0;0;0;0;0;0;0;0;0;0;0;\
+ba10101076101054321010547610541032105410761054543210545476541010""10 \
+ba54101032541010765410543254105476545410325454107654545432545454""54;0;0;0;"
+sed -n '27,$p' "$dir/out" >"$dir/got"
+check "lost: answers and lost words" same "$dir/want" "$dir/got"
+page=$(dirname "$0")/../../docs/SCRIPTS.md
+if [ -e "$page" ]; then
+    shown "$page" 'examples/scripts/lost.txt`' >"$dir/got"
+    check "lost: answers and lost words in the documentation" same "$dir/want" "$dir/got"
+fi
+run "$scripts/lost.txt"
+cp "$dir/out" "$dir/answers"
+check "lost: nothing of it without --lost" equal "$(grep -c '^ ' "$dir/answers" || true)" 0
+losses lost "$scripts/lost.txt" "$dir/answers"
+pictures lost "$scripts/lost.txt" "$dir/answers"
 
 # slave NAME DIGITS WORD: what a slave puts out, a cycle each, and what it received.
 slave() {
@@ -552,6 +638,81 @@ for columns in '' 0 39 1001 x 80x -80 ' 90' 99999999999999999999; do
     COLUMNS=$columns "$tool" --diagram "$scripts/wired.txt" >"$dir/out" || true
     check "COLUMNS '$columns' is not sane" same "$dir/want" "$dir/out"
 done
+
+# ---------------------------------------------------------------- lost words
+
+# lost_is NAME FORMAT LINES: the lines that --lost adds to a script given as for printf, each
+# ended by a semicolon here.
+lost_is() {
+    printf "$2" >"$dir/script"
+    run "$dir/script"
+    cp "$dir/out" "$dir/answers"
+    losses "$1" "$dir/script" "$dir/answers"
+    check "$1: status" equal "$status" 0
+    check "$1: lost words" equal "$(grep '^ ' "$dir/out" | tr '\n' ';')" "$3"
+    like_other "$1" "$dir/script" "$dir/answers"
+    overruns=$((overruns + 1))
+}
+overruns=0
+
+# copies NUMBER TEXT
+copies() {
+    count=$1
+    while [ "$count" -gt 0 ]; do
+        printf '%s' "$2"
+        count=$((count - 1))
+    done
+}
+
+# A master in loopback, Motorola, SPH 0, b 4: a word takes 12 cycles, its last bit is captured
+# in the ninth. Eight words are held.
+word=000000000000
+eight="w 0 10 2\nw 0 0 3\nw 0 4 3\n$(copies 8 'w 0 8 6\n')run 0 $(copies 8 $word)\n"
+lost_is "eight words held" "$eight" ''
+lost_is "a ninth word" "${eight}w 0 8 9\nrun 0 $word\n" '  lost 0 1 9;'
+lost_is "a ninth word in parts" "${eight}w 0 8 9\nrun 0 00000000\ndump 0\nrun 0 0\ndump 0\nrun 0 000\n" \
+    '  lost 0 1 9;'
+lost_is "a lost word 0" "${eight}w 0 8 0\nrun 0 $word\n" '  lost 0 1 0;'
+lost_is "a lost word is cut" "${eight}w 0 8 fff3\nidle 0 $word\n" '  lost 0 1 3;'
+lost_is "the last of eight" "$eight$(copies 7 'w 0 8 f\n')w 0 8 5\nidle 0 $(copies 9 $word)\n" '  lost 0 8 5;'
+lost_is "in several runs" "$eight$(copies 7 'w 0 8 1\n')run 0 $(copies 3 $word)\nw 0 8 2\nrun 0 $(copies 5 $word)\n" \
+    '  lost 0 3 1;  lost 0 5 2;'
+lost_is "ROR cleared between" "${eight}w 0 8 1\nrun 0 $word\nw 0 20 1\ndump 0\nw 0 8 2\nrun 0 $word\ndump 0\n" \
+    '  lost 0 1 1;  lost 0 1 2;'
+lost_is "room for one word" "${eight}r 0 8\nw 0 8 9\nw 0 8 8\nrun 0 $word$word\n" '  lost 0 1 8;'
+lost_is "runs that are refused or empty" \
+    "${eight}w 0 8 9\nrun 0 ${word}8\nidle 0 ${word}f\nrun 0 -\nidle 0 -\npair 0\n" ''
+lost_is "a full transmit queue" "$eight$(copies 9 'w 0 8 1\n')" ''
+lost_is "device 0 of a pair" "${eight}w 0 8 9\nw 0 8 7\npair 30\n" '  lost 0 2 7;'
+lost_is "stopped in edition 1" "${eight}w 0 8 9\nrun 0 00000\nw 0 4 1\nrun 0 $word\n" ''
+lost_is "stopped in edition 2" "reset 0 2\n${eight}w 0 8 9\nrun 0 00000\nw 0 4 1\nrun 0 $word\n" '  lost 0 1 9;'
+
+# Slaves that nobody reads. The inputs are those of the scripts above; a Microwire slave's word
+# has eight bits, whatever b is.
+# slave_loses NAME CR0 INPUTS WORD
+slave_loses() {
+    slave="w 1 10 2\nw 1 0 $2\nw 1 4 6\n"
+    lost_is "$1 slave, a run for each frame" "$slave$(copies 10 "run 1 $3\n")" "  lost 1 1 $4;  lost 1 1 $4;"
+    lost_is "$1 slave, one run" "${slave}run 1 $(copies 12 "$3")\n" "  lost 1 4 $4;"
+}
+slave_loses Motorola 3 22004455001144550011002222 a
+slave_loses TI 13 0033225544110055441100000000 a
+slave_loses Microwire 23 224455001144550011001144550011445500110011001100110011002222 a5
+
+# Both devices of a wired pair: SPH 1, h 6, b 4; nine words each way, the ninth written in mid-message.
+wired="w 0 10 2\nw 0 0 583\nw 1 10 2\nw 1 0 583\n$(copies 8 'w 0 8 6\nw 1 8 9\n')pair 4\nw 1 4 6\nw 0 4 2\n"
+lost_is "a wired pair" "${wired}pair 100\nw 0 8 3\nw 1 8 0\npair 400\nr 0 18\nr 1 18\n" '  lost 0 1 0;  lost 1 1 3;'
+
+# Behind the answer and before the diagram.
+printf "${eight}w 0 8 9\nrun 0 $word\n" >"$dir/script"
+run --diagram --ascii "$dir/script"
+cp "$dir/out" "$dir/want"
+run --lost --diagram --ascii "$dir/script"
+check "lost line behind its answer" equal \
+    "$(sed -n '/^0 [0-9a-f]/h; /^  lost/{ x; p; x; p; n; p; }' "$dir/out" | tr '\n' ';')" \
+    '0 0450101454aa;  lost 0 1 9;  time 96, 12 cycles;'
+grep -v '^  lost ' "$dir/out" >"$dir/got"
+check "lost line beside a diagram" same "$dir/want" "$dir/got"
 
 # ---------------------------------------------------------------- recordings as text
 
@@ -1050,6 +1211,8 @@ usage text a b
 usage text - -
 usage text --frob
 usage text --diagram
+usage text --lost
+usage --losts
 usage --diagram text
 usage text --vcd "$dir/a" "$dir/p4"
 usage --text "$dir/a" text "$dir/p4"
@@ -1061,6 +1224,7 @@ usage -- --vcd a
 run --help
 check "--help: status" equal "$status" 0
 check "--help: text" grep -q '^usage: pl022 ' "$dir/out"
+check "--help: --lost" grep -q '^  --lost ' "$dir/out"
 cp "$scripts/p1.txt" "$dir/--ascii"
 status=0
 (cd "$dir" && "$tool_path" -- --ascii) >"$dir/out" 2>"$dir/err" || status=$?
@@ -1246,6 +1410,13 @@ function stop(d, on) {
         "\nw " d " 4 " (on - 2) "\nrun " d " " recording(random(12)) "\nw " d " 0 " pick(formats) "\ndump " d \
         (random(2) ? "\nw " d " 4 " on "\nrun " d " " recording(random(40)) : "") "\ndump " d
 }
+# Words arrive and nobody reads: a master in loopback or not, or a slave that is clocked.
+function overrun(d, on, text, n) {
+    on = pick("2 3 3 6")
+    text = "w " d " 4 " (on - 2) "\nw " d " 10 2\nw " d " 0 " pick(few_cycles) "\nw " d " 4 " on
+    for (n = random(8); n >= 0; n--) text = text "\nw " d " 8 " hex(random(4) ? random(65536) : 0)
+    return text "\n" pick("run idle run") " " d " " recording(100 + random(300))
+}
 function mutated(line, at, kind) {
     kind = random(9)
     at = random(length(line) + 1)
@@ -1276,6 +1447,14 @@ BEGIN {
         }
         close(name ".valid")
         close(name ".mutated")
+    }
+    few_cycles = "3 7 f 83 43 c7 13 1f 23 27"
+    for (file = 1; file <= 40; file++) {
+        name = sprintf("%s/%03d.overrun", dir, file)
+        print "reset 0" edition() "\nreset 1" edition() >name
+        for (n = 15 + random(15); n > 0; n--)
+            print (random(3) ? overrun(random(2)) : random(2) ? "pair " (100 + random(200)) : command()) >name
+        close(name)
     }
 }'
 
@@ -1324,6 +1503,7 @@ check "valid scripts: an answer for each command" equal \
     "$(wc -l <"$dir/answers")" "$(wc -l <"$dir/all")"
 pictures "valid scripts" "$dir/all" "$dir/answers"
 texts "valid scripts" "$dir/all" "$dir/answers"
+losses "valid scripts" "$dir/all" "$dir/answers"
 like_other "valid scripts" "$dir/all" "$dir/answers"
 for script in "$dir"/fuzz/0[0-4]?.valid; do
     run "$script"
@@ -1332,9 +1512,20 @@ for script in "$dir"/fuzz/0[0-4]?.valid; do
     like_other "$script" "$script" "$dir/answers"
 done
 
+# Scripts in which many words are lost.
+for script in "$dir"/fuzz/*.overrun; do
+    run "$script"
+    cp "$dir/out" "$dir/answers"
+    check "$script: status" equal "$status" 0
+    losses "$script" "$script" "$dir/answers"
+    like_other "$script" "$script" "$dir/answers"
+done
+check "many words were lost" [ "$lost" -ge 300 ]
+
 echo "tool: $checks checks, $failures failed;" \
     "5 recordings, $vectors vectors, $bad_scripts bad scripts, $lines scripts with known text," \
-    "$drawings drawn texts, $refused refused ones, $files file failures," \
+    "$drawings drawn texts, $refused refused ones, $overruns scripts with known lost words," \
+    "$lost lost lines, $files file failures," \
     "$fuzz fuzzed scripts (seed $seed), $(wc -l <"$dir/all" | tr -d ' ') valid commands," \
     "$compared compared with another program"
 [ "$failures" -eq 0 ]

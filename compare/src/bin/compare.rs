@@ -14,8 +14,8 @@ use std::process::ExitCode;
 use std::time::Duration;
 
 const USAGE: &str = "usage: compare [--self | --fault N]
-               [--rounds N | --texts N] [--least N] [--least-texts N] [--seconds N]
-               [--seed HEX] [--trace FILE]
+               [--rounds N | --texts N] [--least N] [--least-texts N] [--least-lost N]
+               [--seconds N] [--seed HEX] [--trace FILE]
        compare [--self | --fault N] --replay < script";
 
 const SEED: u64 = 0x0022_5EED;
@@ -31,6 +31,8 @@ struct Arguments {
     least: u64,
     /// Random texts that must have been compared.
     least_texts: u64,
+    /// Words that must have been lost in the calls.
+    least_lost: u64,
     plan: Plan,
 }
 
@@ -44,6 +46,7 @@ fn parse(words: &[String]) -> Option<Arguments> {
         trace: None,
         least: 0,
         least_texts: 0,
+        least_lost: 0,
         plan,
     };
     let mut words = words.iter();
@@ -55,6 +58,7 @@ fn parse(words: &[String]) -> Option<Arguments> {
             "--fault" => arguments.fault = Some(words.next()?.parse().ok()?),
             "--least" => arguments.least = words.next()?.parse().ok()?,
             "--least-texts" => arguments.least_texts = words.next()?.parse().ok()?,
+            "--least-lost" => arguments.least_lost = words.next()?.parse().ok()?,
             "--rounds" => arguments.plan.rounds = words.next()?.parse().ok()?,
             "--texts" => {
                 let texts: u64 = words.next()?.parse().ok()?;
@@ -84,7 +88,7 @@ fn library() -> Option<Box<dyn Model>> {
 
 fn other_model(arguments: &Arguments) -> Option<Box<dyn Model>> {
     match arguments.fault {
-        Some(number) => Some(Box::new(Faulty(number))),
+        Some(number) => Some(Box::new(Faulty::new(number))),
         None if arguments.itself => Some(Box::new(Second)),
         None => library(),
     }
@@ -101,7 +105,8 @@ fn replay(other: &dyn Model) -> ExitCode {
         let answers = [answer(&mut left, &command), answer(&mut right, &command)];
         if answers[0] != answers[1] || left.records != right.records {
             differences += 1;
-            println!("{line}\n  second: {}\n  other:  {}", answers[0], answers[1]);
+            let [second, other] = answers.map(|answer| answer.with_lost());
+            println!("{line}\n  second: {second}\n  other:  {other}");
             for (device, record) in left.records.iter().enumerate() {
                 show_bytes(device, record, &right.records[device]);
             }
@@ -148,6 +153,7 @@ fn report(outcome: Step<u64>, counts: &Counts, arguments: &Arguments) -> ExitCod
     let texts = counts.texts();
     match outcome {
         Ok(done) => {
+            println!("compare: {}", counts.overruns);
             println!("compare: {}", counts.stopped);
             println!("compare: {texts}");
             println!("compare: {done} cases, {counts}, no difference");
@@ -167,6 +173,7 @@ fn is_enough(counts: &Counts, arguments: &Arguments) -> bool {
     let limits = [
         ("calls on devices", counts.calls(), arguments.least),
         ("random texts", counts.random_texts, arguments.least_texts),
+        ("lost words", counts.overruns.words(), arguments.least_lost),
     ];
     let mut enough = true;
     for (what, count, least) in limits {

@@ -1,5 +1,6 @@
-//! Reads commands from standard input and prints an answer line for each. With --text the
-//! master's cycles are written to a file, a frame a line.
+//! Reads commands from standard input and prints an answer line for each. With --lost a line
+//! follows for each device that lost words; with --text the master's cycles are written to a
+//! file, a frame a line.
 
 use compare::command::Command;
 use compare::frames::Frames;
@@ -10,10 +11,29 @@ use std::fs;
 use std::io::{self, BufRead, BufWriter, Write};
 use std::process::ExitCode;
 
-const USAGE: &str = "usage: script [--text FILE] < commands";
+const USAGE: &str = "usage: script [--lost] [--text FILE] < commands";
+
+#[derive(Default)]
+struct Arguments {
+    lost: bool,
+    text: Option<String>,
+}
+
+fn parse(words: &[String]) -> Option<Arguments> {
+    let mut arguments = Arguments::default();
+    let mut words = words.iter();
+    while let Some(word) = words.next() {
+        match word.as_str() {
+            "--lost" => arguments.lost = true,
+            "--text" => arguments.text = Some(words.next()?.clone()),
+            _ => return None,
+        }
+    }
+    Some(arguments)
+}
 
 /// Answers every line, and records the cycles of each command if frames are given.
-fn answer_all(mut frames: Option<&mut Frames>) -> io::Result<()> {
+fn answer_all(lost: bool, mut frames: Option<&mut Frames>) -> io::Result<()> {
     let mut session = Session::new(&Second);
     let mut out = BufWriter::new(io::stdout().lock());
     for line in io::stdin().lock().lines() {
@@ -22,7 +42,7 @@ fn answer_all(mut frames: Option<&mut Frames>) -> io::Result<()> {
             frames.follow(&session.records, &command);
         }
         if let Some(answer) = answer_line(&mut session, &line) {
-            writeln!(out, "{answer}")?;
+            writeln!(out, "{}", if lost { answer.with_lost() } else { answer.line })?;
         }
     }
     out.flush()
@@ -34,10 +54,10 @@ fn write_frames(frames: &Frames, path: &str) -> Result<(), String> {
     fs::write(path, text).map_err(|error| format!("{path}: {error}"))
 }
 
-fn run(path: Option<&str>) -> Result<(), String> {
-    let mut frames = path.map(|_| Frames::default());
-    answer_all(frames.as_mut()).map_err(|error| error.to_string())?;
-    match (frames, path) {
+fn run(arguments: &Arguments) -> Result<(), String> {
+    let mut frames = arguments.text.as_ref().map(|_| Frames::default());
+    answer_all(arguments.lost, frames.as_mut()).map_err(|error| error.to_string())?;
+    match (frames, &arguments.text) {
         (Some(frames), Some(path)) => write_frames(&frames, path),
         _ => Ok(()),
     }
@@ -45,16 +65,11 @@ fn run(path: Option<&str>) -> Result<(), String> {
 
 fn main() -> ExitCode {
     let words: Vec<String> = std::env::args().skip(1).collect();
-    let words: Vec<&str> = words.iter().map(String::as_str).collect();
-    let path = match words[..] {
-        [] => None,
-        ["--text", path] => Some(path),
-        _ => {
-            eprintln!("{USAGE}");
-            return ExitCode::from(2);
-        }
+    let Some(arguments) = parse(&words) else {
+        eprintln!("{USAGE}");
+        return ExitCode::from(2);
     };
-    match run(path) {
+    match run(&arguments) {
         Ok(()) => ExitCode::SUCCESS,
         Err(message) => {
             eprintln!("script: {message}");

@@ -120,7 +120,7 @@ fn interrupts(bench: &mut Bench) -> Step<()> {
 }
 
 /// What a master with these words shows, as a slave's pins.
-fn wave(cr0: u16, tx: Queue) -> Vec<u8> {
+pub fn wave(cr0: u16, tx: Queue) -> Vec<u8> {
     let mut master = Device { tx, ..device(cr0, MASTER) };
     let rest = [master.idle_lines(); 3];
     let sent = lines_to_rest(&mut master);

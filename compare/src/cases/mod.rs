@@ -7,6 +7,8 @@ mod damage;
 mod editions;
 mod engine;
 mod forged;
+pub mod full;
+mod lost;
 mod pairs;
 pub mod random_text;
 mod settings;
@@ -57,8 +59,14 @@ const CASES: [Entry; 17] = [
 ];
 
 /// Those that draw nothing; last, since they take long.
-const FIXED_CASES: [Entry; 2] =
-    [("single bits", bits::one_by_one, ONCE), ("fixed stops", stops::fixed, ONCE)];
+const FIXED_CASES: [Entry; 3] = [
+    ("single bits", bits::one_by_one, ONCE),
+    ("full queues", full::fixed, ONCE),
+    ("fixed stops", stops::fixed, ONCE),
+];
+
+/// Records in which the next cycle completes a word, with SSE set and clear.
+const ARRIVALS: Entry = ("arrivals", timeout::arrivals, 1);
 
 /// Those with many frames in which SSE is clear, reached and forged.
 const EDITION_CASES: [Entry; 7] = [
@@ -68,20 +76,30 @@ const EDITION_CASES: [Entry; 7] = [
     ("forged records", forged::near_the_limits, 1),
     ("odd records", forged::odd, 1),
     ("forged pair", forged::pair, 1),
-    ("arrivals", timeout::arrivals, 1),
+    ARRIVALS,
 ];
+
+/// Those with many words lost.
+const LOST_CASES: [Entry; 2] =
+    [("lost words", lost::alone, 1), ("lost words in a pair", lost::pairs, 1)];
 
 /// They need no device.
 const TEXT_CASES: [Entry; 2] =
     [("fixed texts", text::fixed, ONCE), ("random texts", random_text::texts, 1)];
 
 pub fn run(bench: &mut Bench, plan: &Plan) -> Step<u64> {
-    run_cases(bench, plan, &[&EDITION_CASES[..], &CASES, &TEXT_CASES, &FIXED_CASES].concat())
+    let cases = [&EDITION_CASES[..], &LOST_CASES, &CASES, &TEXT_CASES, &FIXED_CASES];
+    run_cases(bench, plan, &cases.concat())
 }
 
 /// The random cases that find most frames with SSE clear.
 pub fn run_editions(bench: &mut Bench, plan: &Plan) -> Step<u64> {
     run_cases(bench, plan, &EDITION_CASES)
+}
+
+/// The random cases that lose most words.
+pub fn run_lost(bench: &mut Bench, plan: &Plan) -> Step<u64> {
+    run_cases(bench, plan, &[&LOST_CASES[..], &[ARRIVALS]].concat())
 }
 
 /// The cases of texts alone.

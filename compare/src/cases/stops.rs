@@ -4,7 +4,7 @@
 use super::pairs::pair_run;
 use super::settings::{disable, idle, read, run, write, CPSR, CR0, CR1, SSE};
 use crate::bench::{Bench, Step};
-use crate::calls::wired;
+use crate::calls::pair_cycle;
 use crate::command::Command;
 use crate::device::offset::SR;
 use crate::device::{permitted, Device, Edition, Queue, PLACES};
@@ -12,11 +12,11 @@ use crate::random::Random;
 use crate::record::{at, encode};
 
 /// CR1, enabled.
-const MASTER: u8 = 2;
-const SLAVE: u8 = 6;
+pub const MASTER: u8 = 2;
+pub const SLAVE: u8 = 6;
 
 /// CR0 of four bits, in each format and phase.
-const FOUR_BITS: [u16; 6] = [0x03, 0x43, 0x83, 0xC3, 0x13, 0x23];
+pub const FOUR_BITS: [u16; 6] = [0x03, 0x43, 0x83, 0xC3, 0x13, 0x23];
 
 const WORDS: [u16; 3] = [0xA5C6, 0x5A39, 0xFFFF];
 
@@ -50,18 +50,18 @@ fn resets(bench: &mut Bench) -> Step<()> {
 }
 
 /// Each CR0 without SCR.
-fn settings() -> impl Iterator<Item = u16> {
+pub fn settings() -> impl Iterator<Item = u16> {
     (0..0x100).filter(|cr0| permitted(*cr0))
 }
 
 /// SPO and SPH mean nothing but in Motorola.
-fn has_phase(cr0: u16) -> bool {
+pub fn has_phase(cr0: u16) -> bool {
     cr0 & 0x30 == 0 || cr0 & 0xC0 == 0
 }
 
 /// An enabled device with so many words, of slots of h cycles. RT is up, and one word that
 /// comes is kept, the next lost.
-fn start(cr0: u16, cr1: u8, h: u8, words: usize) -> Device {
+pub fn start(cr0: u16, cr1: u8, h: u8, words: usize) -> Device {
     let tx = Queue::from_words(&WORDS[..words]).unwrap_or_default();
     let rx = Queue::from_words(&[1; PLACES - 1]).unwrap_or_default();
     let device = Device { cr0, cr1, cpsr: 2 * h, tx, rx, rt: true, ..Device::reset() };
@@ -72,7 +72,7 @@ fn start(cr0: u16, cr1: u8, h: u8, words: usize) -> Device {
 fn pins(device: &Device, cycles: usize) -> Vec<u8> {
     let mut master = start(device.cr0, MASTER, device.cpsr / 2, 2);
     let mut sent = vec![master.idle_lines(); 2];
-    sent.extend((0..cycles).map(|_| master.cycle(0)));
+    sent.extend((0..cycles).map(|_| master.cycle(0).lines));
     let rxd = (0..cycles).map(|i| (i % 3 % 2) as u8 * 4);
     if device.slave() {
         sent[..cycles].iter().map(|lines| lines & 7).collect()
@@ -87,7 +87,7 @@ fn whole(device: &Device) -> usize {
 }
 
 /// Every state in a run of the device, with the pins that come after it.
-fn states(device: &Device) -> Vec<(Device, Vec<u8>)> {
+pub fn states(device: &Device) -> Vec<(Device, Vec<u8>)> {
     let input = pins(device, whole(device));
     let mut device = device.clone();
     let mut states = Vec::new();
@@ -98,7 +98,7 @@ fn states(device: &Device) -> Vec<(Device, Vec<u8>)> {
     states
 }
 
-fn load(bench: &mut Bench, device: &Device) {
+pub fn load(bench: &mut Bench, device: &Device) {
     bench.load(0, &encode(device));
     bench.forget();
 }
@@ -185,10 +185,8 @@ fn every_pair(bench: &mut Bench) -> Step<()> {
             for kind in 0..8 {
                 stop_in_pair(bench, &pair, kind)?;
             }
-            let pins = [wired(pair[1].lines), wired(pair[0].lines)];
-            for (device, pins) in pair.iter_mut().zip(pins) {
-                device.cycle(pins);
-            }
+            let [one, other] = &mut pair;
+            pair_cycle(one, other);
         }
     }
     Ok(())

@@ -61,7 +61,7 @@ fn send(random: &mut Random, master: &mut Device, words: u64, wave: &mut Vec<u8>
         let _ = master.write(0x08, random.word());
     }
     while master.busy() {
-        wave.push(master.cycle(0) & 7);
+        wave.push(master.cycle(0).lines & 7);
     }
 }
 
@@ -74,7 +74,7 @@ pub fn master_wave(random: &mut Random, cr0: u32) -> Vec<u8> {
     let mut wave = Vec::new();
     for _ in 0..1 + random.below(4) {
         for _ in 0..random.below(30) {
-            wave.push(master.cycle(0) & 7);
+            wave.push(master.cycle(0).lines & 7);
         }
         let words = 1 + random.below(5);
         send(random, &mut master, words, &mut wave);
@@ -94,6 +94,22 @@ pub fn few_words(random: &mut Random, cr0: u32) -> Vec<u8> {
     send(random, &mut master, words, &mut wave);
     if random.percent(30) {
         wave.truncate(wave.len() - 1 - random.size(4));
+    }
+    wave
+}
+
+/// A master with the format of this CR0: idle lines for two cycles, then so many words at a
+/// high speed, up to eight of them without a pause.
+pub fn many_words(random: &mut Random, cr0: u32, words: u64) -> Vec<u8> {
+    let Some(mut master) = enabled_master(cr0, 1 + random.below(2)) else {
+        return noise(random, 100);
+    };
+    let mut wave = vec![master.idle_lines() & 7; 2];
+    let mut left = words;
+    while left > 0 {
+        let count = left.min(1 + random.below(8));
+        send(random, &mut master, count, &mut wave);
+        left -= count;
     }
     wave
 }
@@ -180,7 +196,12 @@ impl Source {
         self.at = self.at.saturating_sub(cycles);
     }
 
+    /// Cycles of the waveform still to come.
+    pub fn left(&self) -> usize {
+        self.wave.len() - self.at
+    }
+
     pub fn is_over(&self) -> bool {
-        self.at >= self.wave.len()
+        self.left() == 0
     }
 }

@@ -121,10 +121,9 @@ impl Device {
     }
 
     fn write_data(&mut self, word: u16) -> Result<(), u32> {
-        if self.tx.push(word) {
-            Ok(())
-        } else {
-            Err(refusal::FULL)
+        match self.tx.push(word) {
+            None => Ok(()),
+            Some(_) => Err(refusal::FULL),
         }
     }
 

@@ -2,11 +2,26 @@
 
 use super::Device;
 
+/// What one cycle gives.
+#[derive(Clone, Copy, PartialEq, Eq, Debug)]
+pub struct Cycle {
+    pub lines: u8,
+    /// The word that completed in it with eight words held.
+    pub lost: Option<u16>,
+}
+
+impl Cycle {
+    /// Without a capture, so without a word.
+    pub(super) fn showing(lines: u8) -> Cycle {
+        Cycle { lines, lost: None }
+    }
+}
+
 impl Device {
-    /// Takes the pin levels and gives the lines of this cycle.
-    pub fn cycle(&mut self, pins: u8) -> u8 {
-        let lines = if !self.active() {
-            self.idle_lines()
+    /// Takes the pin levels of this cycle.
+    pub fn cycle(&mut self, pins: u8) -> Cycle {
+        let cycle = if !self.active() {
+            Cycle::showing(self.idle_lines())
         } else if self.slave() {
             self.slave_cycle()
         } else {
@@ -18,9 +33,9 @@ impl Device {
         }
         // Pins are followed in every mode, since a slave enabled later looks back.
         self.pins = [pins, self.pins[0], self.pins[1]];
-        self.lines = lines;
+        self.lines = cycle.lines;
         self.count_timeout();
-        lines
+        cycle
     }
 
     /// The cycle counts by the state at its end.

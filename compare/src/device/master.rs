@@ -1,6 +1,6 @@
 //! The master: slot by slot, events in a slot's first cycle.
 
-use super::{Device, Format, CLK, CONTROL_BITS, DATA, FSS, NSSPOE};
+use super::{Cycle, Device, Format, CLK, CONTROL_BITS, DATA, FSS, NSSPOE};
 
 fn pack(clk: bool, fss: bool, data: bool, released: bool) -> u8 {
     let level = |on: bool, bit: u8| if on { bit } else { 0 };
@@ -25,23 +25,23 @@ impl Device {
         !self.slave() && self.word_waits() && (self.at_rest() || in_frame)
     }
 
-    pub(super) fn master_cycle(&mut self, pins: u8) -> u8 {
+    pub(super) fn master_cycle(&mut self, pins: u8) -> Cycle {
         let rest = self.at_rest();
         if rest && !self.word_waits() {
-            return self.idle_lines();
+            return Cycle::showing(self.idle_lines());
         }
         // A slot without a frame only runs out.
         let event = self.gone == 0 && (self.frame || rest);
         if event {
             self.slot_event();
         }
-        let lines = self.master_lines();
+        let mut cycle = Cycle::showing(self.master_lines());
         if event && self.captures_in_slot() {
-            let source = if self.loopback() { lines } else { pins };
-            self.capture(source & DATA != 0);
+            let source = if self.loopback() { cycle.lines } else { pins };
+            cycle.lost = self.capture(source & DATA != 0);
         }
         self.advance();
-        lines
+        cycle
     }
 
     fn slot_event(&mut self) {

@@ -7,6 +7,7 @@ mod queue;
 mod slave;
 
 pub use access::{offset, refusal};
+pub use cycle::Cycle;
 pub use queue::{Queue, PLACES};
 
 /// Bits of an output byte; an input byte has RXD where TXD stands.
@@ -273,24 +274,27 @@ impl Device {
         self.captured == self.incoming_bits()
     }
 
-    /// Captures one bit, the last completes the word. More than that are ignored.
-    fn capture(&mut self, level: bool) {
+    /// Captures one bit, the last completes the word. More than that are ignored. Gives the
+    /// word if it is lost.
+    #[must_use]
+    fn capture(&mut self, level: bool) -> Option<u16> {
         if self.all_captured() {
-            return;
+            return None;
         }
         self.receiving = self.receiving << 1 | u16::from(level);
         self.captured += 1;
-        if self.all_captured() {
-            self.word_arrives(self.receiving & self.incoming_mask());
+        if !self.all_captured() {
+            return None;
         }
+        self.word_arrives(self.receiving & self.incoming_mask())
     }
 
     /// A word clears RT, be it kept or lost (D113): the flag, not the count, and before
     /// the cycle's end, which may set it again (D114).
-    fn word_arrives(&mut self, word: u16) {
+    fn word_arrives(&mut self, word: u16) -> Option<u16> {
         self.rt = false;
-        if !self.rx.push(word) {
-            self.ror = true;
-        }
+        let lost = self.rx.push(word);
+        self.ror |= lost.is_some();
+        lost
     }
 }

@@ -33,14 +33,15 @@ impl Queue {
         self.held == PLACES
     }
 
-    /// False if full; then the eight stay and the word is lost.
-    pub fn push(&mut self, word: u16) -> bool {
+    /// Gives the word back if full: then the eight stay.
+    #[must_use]
+    pub fn push(&mut self, word: u16) -> Option<u16> {
         if self.is_full() {
-            return false;
+            return Some(word);
         }
         self.words[self.held] = word;
         self.held += 1;
-        true
+        None
     }
 
     pub fn pop(&mut self) -> Option<u16> {

@@ -1,6 +1,6 @@
 //! The slave: follows pins as they stood two cycles earlier.
 
-use super::{Device, Format, CLK, CONTROL_BITS, DATA, FSS, NSSPOE};
+use super::{Cycle, Device, Format, CLK, CONTROL_BITS, DATA, FSS, NSSPOE};
 
 /// Slots of a Microwire frame, counted as the master counts them: at the rise of the wait
 /// the slave takes its word, at the fall after it the first bit is out.
@@ -29,7 +29,7 @@ impl Seen {
 }
 
 impl Device {
-    pub(super) fn slave_cycle(&mut self) -> u8 {
+    pub(super) fn slave_cycle(&mut self) -> Cycle {
         let seen = Seen { now: self.pins[1], before: self.pins[2] };
         match self.format() {
             Format::Motorola => self.motorola_slave(seen),
@@ -58,22 +58,21 @@ impl Device {
         }
     }
 
-    fn motorola_slave(&mut self, seen: Seen) -> u8 {
+    fn motorola_slave(&mut self, seen: Seen) -> Cycle {
         if seen.high(FSS) {
             self.clear_engine();
-            return self.slave_lines(false);
+            return Cycle::showing(self.slave_lines(false));
         }
         if seen.fell(FSS) {
             self.select();
         }
-        if self.selected && (seen.rose(CLK) || seen.fell(CLK)) {
-            self.motorola_edge(seen);
-        }
+        let edge = self.selected && (seen.rose(CLK) || seen.fell(CLK));
+        let lost = if edge { self.motorola_edge(seen) } else { None };
         if self.all_captured() {
             // TXD holds until FSS is HIGH, so only the frame ends.
             self.frame = false;
         }
-        self.slave_lines(self.selected)
+        Cycle { lines: self.slave_lines(self.selected), lost }
     }
 
     fn select(&mut self) {
@@ -95,20 +94,21 @@ impl Device {
         self.held = self.bit(self.captured.min(self.bits() - 1));
     }
 
-    fn motorola_edge(&mut self, seen: Seen) {
+    fn motorola_edge(&mut self, seen: Seen) -> Option<u16> {
         let to_active = seen.high(CLK) != self.spo();
         if self.sph() && to_active && !self.frame {
             self.start_word();
         } else if !self.frame {
             // Before the word is taken, or after its last bit.
         } else if to_active != self.sph() {
-            self.capture(self.slave_data(seen));
+            return self.capture(self.slave_data(seen));
         } else {
             self.drive_bit();
         }
+        None
     }
 
-    fn ti_slave(&mut self, seen: Seen) -> u8 {
+    fn ti_slave(&mut self, seen: Seen) -> Cycle {
         let start = seen.fell(CLK) && seen.high(FSS);
         if seen.rose(CLK) {
             self.ti_rise();
@@ -117,15 +117,15 @@ impl Device {
             self.end_frame();
         }
         // The last capture's own cycle still shows the bit.
-        let lines = self.slave_lines(self.frame);
+        let mut cycle = Cycle::showing(self.slave_lines(self.frame));
         if self.frame && seen.fell(CLK) {
-            self.capture(self.slave_data(seen));
+            cycle.lost = self.capture(self.slave_data(seen));
         }
         if self.frame && self.all_captured() {
             self.end_frame();
         }
         self.mark |= start;
-        lines
+        cycle
     }
 
     fn ti_rise(&mut self) {
@@ -137,19 +137,20 @@ impl Device {
         }
     }
 
-    fn microwire_slave(&mut self, seen: Seen) -> u8 {
+    fn microwire_slave(&mut self, seen: Seen) -> Cycle {
         if seen.high(FSS) {
             self.clear_engine();
         } else if seen.fell(FSS) {
             self.await_control();
         }
+        let mut lost = None;
         if self.selected && seen.rose(CLK) {
-            self.microwire_rise(seen);
+            lost = self.microwire_rise(seen);
         } else if self.selected && seen.fell(CLK) {
             self.microwire_fall();
         }
         // Not by the frame: the last bit is still out when the frame is over.
-        self.slave_lines(self.selected && self.slot >= FIRST_BIT)
+        Cycle { lines: self.slave_lines(self.selected && self.slot >= FIRST_BIT), lost }
     }
 
     /// Selected, and the next rising edge has the first control bit.
@@ -163,27 +164,29 @@ impl Device {
         WORD_TAKEN + 2 * self.bits()
     }
 
-    fn microwire_rise(&mut self, seen: Seen) {
+    fn microwire_rise(&mut self, seen: Seen) -> Option<u16> {
         if self.slot < WORD_TAKEN {
-            self.control_rise(seen);
-        } else if self.slot % 2 == 0 && self.slot < self.last_rise() {
+            return self.control_rise(seen);
+        }
+        if self.slot % 2 == 0 && self.slot < self.last_rise() {
             self.slot += 1;
             if self.slot == self.last_rise() {
                 self.frame = false;
             }
         }
+        None
     }
 
     /// Latches a control bit, or takes the word in the clock after the eight.
-    fn control_rise(&mut self, seen: Seen) {
+    fn control_rise(&mut self, seen: Seen) -> Option<u16> {
         if self.all_captured() {
             self.start_word();
             self.slot = WORD_TAKEN;
-        } else {
-            self.frame = true;
-            // TXD is LOW now, so in loopback every control bit is.
-            self.capture(!self.loopback() && seen.high(DATA));
+            return None;
         }
+        self.frame = true;
+        // TXD is LOW now, so in loopback every control bit is.
+        self.capture(!self.loopback() && seen.high(DATA))
     }
 
     /// Ends a data bit: what follows it, the next one or none, shows at once.

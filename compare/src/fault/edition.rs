@@ -3,6 +3,7 @@
 use crate::device::offset::{CPSR, CR0, CR1, SR};
 use crate::device::{permitted, refusal, Device, Edition, Format, NSSPOE};
 use crate::model::{Model, Second};
+use crate::ran::{PairRan, Ran};
 use crate::record::{at, encode, sound_device, LENGTH};
 use crate::stopped::stopped;
 
@@ -179,10 +180,10 @@ fn clear(device: &mut Device) {
 }
 
 /// One cycle after the other, each with its fault.
-pub fn run(number: u32, record: &mut [u8], input: &[u8], output: &mut [u8]) -> u32 {
-    let refusal = Second.run(&mut record.to_vec(), input, &mut output.to_vec());
-    if refusal != 0 {
-        return refusal;
+pub fn run(number: u32, record: &mut [u8], input: &[u8], output: &mut [u8]) -> Ran {
+    let ran = Second.run(&mut record.to_vec(), input, &mut output.to_vec());
+    if ran.refusal != 0 {
+        return ran;
     }
     for (pins, lines) in input.iter().zip(output) {
         let before = stopped(record);
@@ -194,7 +195,7 @@ pub fn run(number: u32, record: &mut [u8], input: &[u8], output: &mut [u8]) -> u
             record.copy_from_slice(&encode(&after));
         }
     }
-    0
+    ran
 }
 
 /// The cycle as it goes with SSE set; the RT count stays 0.
@@ -247,18 +248,18 @@ fn spoil(number: u32, before: &Device, pins: u8, after: &mut Device) {
     }
 }
 
-pub fn run_to_idle(number: u32, record: &mut [u8], input: &[u8], output: &mut [u8]) -> (u64, u64) {
+pub fn run_to_idle(number: u32, record: &mut [u8], input: &[u8], output: &mut [u8]) -> Ran {
     if number == 101 && stopped(record).is_some() {
         // Nothing to wait for with SSE clear.
-        let refusal = Second.run(&mut record.to_vec(), input, &mut output.to_vec());
-        return (u64::from(refusal), 0);
+        let Ran { refusal, .. } = Second.run(&mut record.to_vec(), input, &mut output.to_vec());
+        return Ran { refusal, ..Ran::default() };
     }
     Second.run_to_idle(record, input, output)
 }
 
-pub fn pair_run(number: u32, first: &mut [u8], second: &mut [u8], cycles: u64) -> u32 {
+pub fn pair_run(number: u32, first: &mut [u8], second: &mut [u8], cycles: u64) -> PairRan {
     // Without cycles the call only checks.
-    let refusal = Second.pair_run(first, second, 0);
+    let PairRan { refusal, .. } = Second.pair_run(first, second, 0);
     if refusal == 0 && number == 102 && cycles > 0 && first[at::EDITION] == 0 {
         // Both go by the edition of the first.
         if let Some(mut device) = stopped(second) {

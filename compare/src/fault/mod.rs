@@ -1,15 +1,18 @@
 //! The second program with one fault, to see that the harness finds it.
 
 mod edition;
+mod lost;
 mod text;
 
 use crate::device::offset::{CR1, ICR, MIS, SR};
 use crate::device::{Device, Format, Queue, DATA, FSS};
 use crate::model::{Model, Second};
+use crate::ran::{Lost, PairRan, Ran};
 use crate::record::{at, encode, sound_device, LENGTH};
+use std::cell::Cell;
 use std::ops::RangeInclusive;
 
-pub const FAULTS: u32 = 107;
+pub const FAULTS: u32 = 148;
 
 /// Those of a Microwire slave.
 pub const MICROWIRE_FAULTS: RangeInclusive<u32> = 15..=18;
@@ -25,6 +28,9 @@ pub const TEXT_FAULTS: RangeInclusive<u32> = 33..=61;
 
 /// Those of the two editions.
 pub const EDITION_FAULTS: RangeInclusive<u32> = 62..=106;
+
+/// Those of the words that runs hand up as lost.
+pub const LOST_FAULTS: RangeInclusive<u32> = 107..=147;
 
 /// Those that spoil single cycles of a run.
 fn spoils_cycles(number: u32) -> bool {
@@ -97,10 +103,8 @@ enum Arrival {
 }
 
 fn arrival(before: &Device, pins: u8) -> Arrival {
-    // ROR may be set already, so it is looked for in a copy without it.
-    let mut after = Device { ror: false, ..before.clone() };
-    after.cycle(pins);
-    if after.ror {
+    let mut after = before.clone();
+    if after.cycle(pins).lost.is_some() {
         Arrival::Lost
     } else if after.rx.len() > before.rx.len() {
         Arrival::Kept
@@ -179,17 +183,17 @@ fn write_cr1_off(record: &mut [u8], value: u32) -> u32 {
 }
 
 /// A run to idle that goes on while RFF is up, not BSY.
-fn idle_off(record: &mut [u8], input: &[u8], output: &mut [u8]) -> (u64, u64) {
-    let refusal = Second.run(&mut record.to_vec(), input, &mut output.to_vec());
-    let mut count = 0;
+fn idle_off(record: &mut [u8], input: &[u8], output: &mut [u8]) -> Ran {
+    let Ran { refusal, .. } = Second.run(&mut record.to_vec(), input, &mut output.to_vec());
+    let mut ran = Ran { refusal, ..Ran::default() };
     for (pins, lines) in input.iter().zip(output) {
         if refusal != 0 || Second.read(record, SR).1 & 8 == 0 {
             break;
         }
-        Second.run(record, &[*pins], std::slice::from_mut(lines));
-        count += 1;
+        let cycle = Second.run(record, &[*pins], std::slice::from_mut(lines));
+        ran = Ran { count: ran.count + 1, lost: ran.lost.then(cycle.lost), ..ran };
     }
-    (u64::from(refusal), count)
+    ran
 }
 
 /// One cycle after the other, each with its fault.
@@ -214,24 +218,35 @@ fn keep_timeout(before: &[u8], record: &mut [u8]) {
     }
 }
 
-/// Number of the fault, from 0.
-pub struct Faulty(pub u32);
+/// The second program with the fault of this number.
+pub struct Faulty {
+    number: u32,
+    /// What no program may have: something kept from one call to the next.
+    memory: Cell<Lost>,
+}
+
+impl Faulty {
+    /// Numbers count from 0.
+    pub fn new(number: u32) -> Faulty {
+        Faulty { number, memory: Cell::default() }
+    }
+}
 
 impl Model for Faulty {
     fn reset(&self, record: &mut [u8]) -> u32 {
-        edition::reset(self.0, record)
+        edition::reset(self.number, record)
     }
 
     fn reset_edition(&self, record: &mut [u8], edition: u32) -> u32 {
-        edition::reset_edition(self.0, record, edition)
+        edition::reset_edition(self.number, record, edition)
     }
 
     fn read(&self, record: &mut [u8], offset: u32) -> (u32, u32) {
-        if EDITION_FAULTS.contains(&self.0) {
-            return edition::read(self.0, record, offset);
+        if EDITION_FAULTS.contains(&self.number) {
+            return edition::read(self.number, record, offset);
         }
         let (refusal, word) = Second.read(record, offset);
-        match self.0 {
+        match self.number {
             0 if refusal == 8 => (8, 1),
             1 if offset == 0x1C => Second.read(record, 0x18),
             28 if offset == MIS && refusal == 0 => (0, mis_off(record, word)),
@@ -240,29 +255,34 @@ impl Model for Faulty {
     }
 
     fn write(&self, record: &mut [u8], offset: u32, value: u32) -> u32 {
-        if EDITION_FAULTS.contains(&self.0) {
-            return edition::write(self.0, record, offset, value);
+        if EDITION_FAULTS.contains(&self.number) {
+            return edition::write(self.number, record, offset, value);
         }
         let held = record.get(at::RX_COUNT).copied();
-        let refusal = match self.0 {
+        let refusal = match self.number {
             // The bit of ROR clears RT.
             29 if offset == ICR && value <= 3 => Second.write(record, offset, 3 * (value & 1)),
             30 if offset == CR1 => write_cr1_off(record, value),
             _ => Second.write(record, offset, value),
         };
-        if self.0 == 2 && offset == 0x20 && refusal == 0 && held == Some(8) {
+        if self.number == 2 && offset == 0x20 && refusal == 0 && held == Some(8) {
             record[127] = 1;
         }
+        lost::write(self.number, refusal, value, &self.memory);
         refusal
     }
 
-    fn run(&self, record: &mut [u8], input: &[u8], output: &mut [u8]) -> u32 {
-        if EDITION_FAULTS.contains(&self.0) {
-            return edition::run(self.0, record, input, output);
+    fn run(&self, record: &mut [u8], input: &[u8], output: &mut [u8]) -> Ran {
+        if EDITION_FAULTS.contains(&self.number) {
+            return edition::run(self.number, record, input, output);
         }
         let mut start = record.to_vec();
-        let refusal = Second.run(record, input, output);
-        match self.0 {
+        let ran = Second.run(record, input, output);
+        let refusal = ran.refusal;
+        match self.number {
+            number if LOST_FAULTS.contains(&number) => {
+                return lost::run(number, (&start, input, output.len()), ran, &self.memory);
+            }
             number if refusal == 0 && spoils_cycles(number) => {
                 run_spoiled(number, &mut start, input, output);
                 record.copy_from_slice(&start);
@@ -270,58 +290,64 @@ impl Model for Faulty {
             3 if refusal == 12 => output[0] = 0,
             4 if refusal == 11 && record.len() == 128 => record[30] ^= 1,
             5 if refusal == 0 && input.len() > 1000 => output[1000] ^= 4,
-            9..=14 if refusal == 0 && !input.is_empty() => spoil_engine(self.0, record),
+            9..=14 if refusal == 0 && !input.is_empty() => spoil_engine(self.number, record),
             _ => {}
         }
-        refusal
+        ran
     }
 
-    fn run_to_idle(&self, record: &mut [u8], input: &[u8], output: &mut [u8]) -> (u64, u64) {
-        if EDITION_FAULTS.contains(&self.0) {
-            return edition::run_to_idle(self.0, record, input, output);
+    fn run_to_idle(&self, record: &mut [u8], input: &[u8], output: &mut [u8]) -> Ran {
+        if EDITION_FAULTS.contains(&self.number) {
+            return edition::run_to_idle(self.number, record, input, output);
         }
-        if self.0 == 31 {
+        if self.number == 31 {
             return idle_off(record, input, output);
         }
         let start = record.to_vec();
-        let (refusal, count) = Second.run_to_idle(record, input, output);
-        if self.0 == 24 {
+        let ran = Second.run_to_idle(record, input, output);
+        if self.number == 24 {
             keep_timeout(&start, record);
         }
-        match self.0 {
-            6 if refusal == 0 && count == 0 && !input.is_empty() => (0, 1),
-            7 if refusal == 12 => (11, 0),
-            _ => (refusal, count),
+        match self.number {
+            number if LOST_FAULTS.contains(&number) => {
+                lost::run_to_idle(number, (&start, input, output.len()), ran, &self.memory)
+            }
+            6 if ran == Ran::default() && !input.is_empty() => Ran { count: 1, ..ran },
+            7 if ran.refusal == 12 => Ran::refused(11),
+            _ => ran,
         }
     }
 
-    fn pair_run(&self, first: &mut [u8], second: &mut [u8], cycles: u64) -> u32 {
-        if EDITION_FAULTS.contains(&self.0) {
-            return edition::pair_run(self.0, first, second, cycles);
+    fn pair_run(&self, first: &mut [u8], second: &mut [u8], cycles: u64) -> PairRan {
+        if EDITION_FAULTS.contains(&self.number) {
+            return edition::pair_run(self.number, first, second, cycles);
         }
-        if self.0 == 8 {
+        if self.number == 8 {
             return Second.pair_run(second, first, cycles.saturating_sub(1));
         }
         let start = [first.to_vec(), second.to_vec()];
         // Without cycles the call only checks.
-        if self.0 == 32 && cycles > 0 && Second.pair_run(first, second, 0) == 0 {
+        if self.number == 32 && cycles > 0 && Second.pair_run(first, second, 0).refusal == 0 {
             // TXD of the last lines is LOW where it is driven, as nSSPOE is.
             first[at::LINES] &= !DATA;
             second[at::LINES] &= !DATA;
         }
-        let refusal = Second.pair_run(first, second, cycles);
-        if self.0 == 25 {
+        let ran = Second.pair_run(first, second, cycles);
+        if self.number == 25 {
             keep_timeout(&start[0], first);
             keep_timeout(&start[1], second);
         }
-        refusal
+        if LOST_FAULTS.contains(&self.number) {
+            return lost::pair_run(self.number, &start, cycles, ran, &self.memory);
+        }
+        ran
     }
 
     fn write_text(&self, cycles: &[u8], places: &[u32], text: &mut [u8]) -> (u64, u64) {
-        text::write_text(self.0, cycles, places, text)
+        text::write_text(self.number, cycles, places, text)
     }
 
     fn read_text(&self, text: &[u8], cycles: &mut [u8], starts: &mut [u32]) -> (u64, u64, u64) {
-        text::read_text(self.0, text, cycles, starts)
+        text::read_text(self.number, text, cycles, starts)
     }
 }

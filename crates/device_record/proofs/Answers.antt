@@ -1,7 +1,7 @@
 -- Each way out of a call on records, as its contract states it.
 use Prim.Native.Nat.{ℕ, _<_}
-use mathlib.Core.Path.{_≡_, refl, sym, _∙_, ap}
-use mathlib.Core.List.{List}
+use mathlib.Core.Path.{_≡_, refl, sym, _∙_, ap, ap₂}
+use mathlib.Core.List.{List, []}
 use mathlib.Core.Bool.{Bool, true, false, not, _||_}
 use native.Mathlib.Omega.{arith}
 use lib.Dec.{eqb}
@@ -15,10 +15,11 @@ use Rattle.serial.specs.Cycle.{DeviceModel, deviceOf, resetDevice}
 use Rattle.serial.specs.Access.{readAnswerOf, readDevice, writeRefusalOf, writeDevice, Read, Write}
 use Rattle.serial.proofs.Accesses.{refused-read}
 use Rattle.device_record.specs.Record.{encoded, encode, decode, soundBytes}
-use Rattle.device_record.specs.Run.{afterBytes, outputs, inputsFit, stopsOn, countUntil, written, RunUntil, runRefusal}
-use Rattle.device_record.specs.Calls.{leftBy, resetRefusal, recordRefusal, readCall, writeCall, runCount, runLeft, runOutput, ResetCall, ReadCall, WriteCall, RunCall, RunsAll, pairRefusal, pairAfter, PairCall}
-use Rattle.serial.specs.Pair.{PairModel, pairRun, pairOf}
-use Rattle.serial.specs.declared.pair.Wired.{Wired}
+use Rattle.device_record.specs.Run.{lossesOf, afterBytes, outputs, lostWith, inputsFit, stopsOn, countUntil, written, RunUntil, runRefusal}
+use Rattle.device_record.specs.Calls.{leftBy, resetRefusal, recordRefusal, readCall, writeCall, runCount, runLost, runLeft, runOutput, ResetCall, ReadCall, WriteCall, RunCall, RunsAll, pairRefusal, pairAfter, pairCallLost, PairCall}
+use Rattle.serial.specs.Pair.{PairModel, pairRun, pairLost, swapped, pairOf, PairRun}
+use Rattle.serial.specs.declared.pair.PairRan.{PairRan}
+use Rattle.serial.specs.declared.lost.Losses.{Losses}
 use Rattle.serial.specs.declared.Device.{Device}
 use Rattle.serial.specs.declared.access.Reading.{Reading}
 use Rattle.serial.specs.declared.access.Written.{Written}
@@ -104,17 +105,18 @@ module _ (b : List ℕ) (o v n : ℕ) (e : n ≡ recordRefusal b) where
 
 -- Runs -----------------------------------------------------------------------------------------------------------------
 
-run-passes : (b i o : List ℕ) → runRefusal b i o ≡ 0 → (eqb (length b) 128 ≡ true) × (length i ≡ length o)
+pub run-passes : (b i o : List ℕ) → runRefusal b i o ≡ 0 → (eqb (length b) 128 ≡ true) × (length i ≡ length o) × (soundBytes b ≡ true)
 unfolding runRefusal
 run-passes b i o z =
     let p = passes (eqb (length b) 128) 10 (pick (not (eqb (length i) (length o))) 11 (pick (not (inputsFit i)) 12 (pick (not (soundBytes b)) 9 0))) (omega arith) z in
     let q = passes (eqb (length i) (length o)) 11 (pick (not (inputsFit i)) 12 (pick (not (soundBytes b)) 9 0)) (omega arith) (p .1) in
-    (p .0, eqb-true (length i) (length o) (q .0))
+    let r = passes (inputsFit i) 12 (pick (not (soundBytes b)) 9 0) (omega arith) (q .1) in
+    (p .0, eqb-true (length i) (length o) (q .0), passes (soundBytes b) 9 0 (omega arith) (r .1) .0)
 
 module _ (stop : Stop) (b i o : List ℕ) (n : ℕ) (e : n ≡ runRefusal b i o) where
   pub run-done : (s : Device) (r : Ran) → deviceOf s ≡ decode b → (b′ o′ : List ℕ) → n ≡ 0 → b′ ≡ encode (deviceOf (r .device)) b
-      → RunUntil (stopsOn stop) (deviceOf s) i o r o′ → RunCall stop b i o (record { refusal = 0; count = r .count }) b′ o′
-  unfolding runCount
+      → RunUntil (stopsOn stop) (deviceOf s) i o r o′ → RunCall stop b i o (record { refusal = 0; count = r .count; lost = r .lost }) b′ o′
+  unfolding runCount runLost
   run-done s r h b′ o′ t k g =
       let z : runRefusal b i o ≡ 0 = sym e ∙ t in
       let p = run-passes b i o z in
@@ -122,13 +124,14 @@ module _ (stop : Stop) (b i o : List ℕ) (n : ℕ) (e : n ≡ runRefusal b i o)
       record {
         refusal = sym z;
         count = rw z (g .count ∙ rw (a, h));
+        lost = rw z (g .lost ∙ rw (a, h));
         left = rw z (stored b b′ (deviceOf (r .device)) (afterBytes (decode b) (take (countUntil (stopsOn stop) (decode b) i) i)) (p .0) k (g .device ∙ rw (a, h)));
         output = rw z (g .output ∙ rw (a, h));
       }
 
-  pub run-unserved : (n ≡ 0 → ⊥) → RunCall stop b i o (record { refusal = n; count = 0 }) b o
-  unfolding runCount
-  run-unserved f = let k = ne-eqb n 0 f in record { refusal = e; count = rw (← e, k); left = rw (← e, k); output = rw (← e, k) }
+  pub run-unserved : (l : Losses) → l ≡ lossesOf [] → (n ≡ 0 → ⊥) → RunCall stop b i o (record { refusal = n; count = 0; lost = l }) b o
+  unfolding runCount runLost
+  run-unserved l j f = let k = ne-eqb n 0 f in record { refusal = e; count = rw (← e, k); lost = rw (← e, k) j; left = rw (← e, k); output = rw (← e, k) }
 
 -- A run without a stopping rule runs a cycle for each input byte.
 module _ (b i o : List ℕ) where
@@ -150,10 +153,19 @@ module _ (b i o : List ℕ) where
       go true k = rw (count-all (runRefusal b i o) refl k) (written-all (decode b) i o (run-passes b i o (eqb-true (runRefusal b i o) 0 k) .1))
       go false k = refl
 
+  lost-all : runLost Never b i o ≡ pick (eqb (runRefusal b i o) 0) (lostWith (decode b) i) []
+  unfolding runLost
+  lost-all = go (eqb (runRefusal b i o) 0) refl
+    where
+      go : (t : Bool) → eqb (runRefusal b i o) 0 ≡ t → pick t (lostWith (decode b) (take (runCount Never b i o) i)) [] ≡ pick t (lostWith (decode b) i) []
+      go true k = rw (count-all (runRefusal b i o) refl k, take-length i)
+      go false k = refl
+
 pub runs-all : RunsAll
 unfolding runCount
 runs-all =
     record {
+      lost = lost-all;
       count = λ b i o. ap (λ (n : ℕ). pick (eqb (runRefusal b i o) 0) n 0) (count-never (decode b) i);
       left = run-all;
       output = output-all;
@@ -166,19 +178,48 @@ either true true k r h e = (refl, refl, e)
 either true false k r h e = absurd (omega arith)
 either false t k r h e = absurd (omega arith)
 
+-- What a pair run that is done has passed: both lengths, both records sound.
+pub pair-passes : (one two : List ℕ) → pairRefusal one two ≡ 0
+    → (eqb (length one) 128 ≡ true) × (eqb (length two) 128 ≡ true) × (soundBytes one ≡ true) × (soundBytes two ≡ true)
+unfolding pairRefusal
+pair-passes one two z =
+    let l = either (eqb (length one) 128) (eqb (length two) 128) 10 (pick (not (soundBytes one) || not (soundBytes two)) 9 0) (omega arith) z in
+    let s = either (soundBytes one) (soundBytes two) 9 0 (omega arith) (l .2) in
+    (l .0, l .1, s .0, s .1)
+
+or-swap : (a b : Bool) → (a || b) ≡ (b || a)
+or-swap true true = refl
+or-swap true false = refl
+or-swap false true = refl
+or-swap false false = refl
+
+-- Either order is refused with the same number.
+pub pair-refusal-swap : (one two : List ℕ) → pairRefusal two one ≡ pairRefusal one two
+unfolding pairRefusal
+pair-refusal-swap one two =
+    ap₂ (λ (s t : Bool). pick s 10 (pick t 9 0))
+    (or-swap (not (eqb (length two) 128)) (not (eqb (length one) 128)))
+    (or-swap (not (soundBytes two)) (not (soundBytes one)))
+
 module _ (one two : List ℕ) (n : ℕ) (e : n ≡ pairRefusal one two) where
-  pub pair-done : (cycles : ℕ) (one′ two′ : List ℕ) (p : PairModel) (w : Wired) → n ≡ 0 → pairOf w ≡ pairRun cycles p → p ≡ record { first = decode one; second = decode two }
-      → one′ ≡ encode (deviceOf (w .first)) one → two′ ≡ encode (deviceOf (w .second)) two → PairCall one two cycles n one′ two′
-  unfolding pairRefusal pairAfter pairOf
-  pair-done cycles one′ two′ p w t h s j k =
+  pub pair-done : (cycles : ℕ) (one′ two′ : List ℕ) (p : PairModel) (r : PairRan) → n ≡ 0 → PairRun cycles p r → p ≡ record { first = decode one; second = decode two }
+      → one′ ≡ encode (deviceOf (r .pair .first)) one → two′ ≡ encode (deviceOf (r .pair .second)) two → PairCall one two cycles (record { refusal = 0; first = r .first; second = r .second }) one′ two′
+  unfolding pairAfter pairOf pairCallLost
+  pair-done cycles one′ two′ p r t h s j k =
       let z : pairRefusal one two ≡ 0 = sym e ∙ t in
-      let l = either (eqb (length one) 128) (eqb (length two) 128) 10 (pick (not (soundBytes one) || not (soundBytes two)) 9 0) (omega arith) z in
-      let g : pairOf w ≡ pairAfter one two cycles = h ∙ ap (pairRun cycles) s in
+      let z′ : pairRefusal two one ≡ 0 = pair-refusal-swap one two ∙ z in
+      let l = pair-passes one two z in
+      let g : pairOf (r .pair) ≡ pairAfter one two cycles = h .pair ∙ ap (pairRun cycles) s in
       record {
-        refusal = e;
-        first = stored one one′ (deviceOf (w .first)) (pairAfter one two cycles .first) (l .0) j (ap (λ (x : PairModel). x .first) g) ∙ sym (ap (λ (r : ℕ). pick (eqb r 0) (encoded (pairAfter one two cycles .first)) one) z);
-        second = stored two two′ (deviceOf (w .second)) (pairAfter one two cycles .second) (l .1) k (ap (λ (x : PairModel). x .second) g) ∙ sym (ap (λ (r : ℕ). pick (eqb r 0) (encoded (pairAfter one two cycles .second)) two) z);
+        refusal = sym z;
+        firstLost = h .first ∙ ap (λ (q : PairModel). lossesOf (pairLost cycles q)) s ∙ sym (ap (λ (x : ℕ). lossesOf (pick (eqb x 0) (pairLost cycles (record { first = decode one; second = decode two })) [])) z);
+        secondLost = h .second ∙ ap (λ (q : PairModel). lossesOf (pairLost cycles (swapped q))) s ∙ sym (ap (λ (x : ℕ). lossesOf (pick (eqb x 0) (pairLost cycles (record { first = decode two; second = decode one })) [])) z′);
+        firstLeft = stored one one′ (deviceOf (r .pair .first)) (pairAfter one two cycles .first) (l .0) j (ap (λ (x : PairModel). x .first) g) ∙ sym (ap (λ (x : ℕ). pick (eqb x 0) (encoded (pairAfter one two cycles .first)) one) z);
+        secondLeft = stored two two′ (deviceOf (r .pair .second)) (pairAfter one two cycles .second) (l .1) k (ap (λ (x : PairModel). x .second) g) ∙ sym (ap (λ (x : ℕ). pick (eqb x 0) (encoded (pairAfter one two cycles .second)) two) z);
       }
 
-  pub pair-refused : (cycles : ℕ) → (n ≡ 0 → ⊥) → PairCall one two cycles n one two
-  pair-refused cycles f = let k = ne-eqb n 0 f in record { refusal = e; first = rw (← e, k); second = rw (← e, k) }
+  pub pair-refused : (cycles : ℕ) (l m : Losses) → l ≡ lossesOf [] → m ≡ lossesOf [] → (n ≡ 0 → ⊥) → PairCall one two cycles (record { refusal = n; first = l; second = m }) one two
+  unfolding pairCallLost
+  pair-refused cycles l m j j′ f =
+      let k = ne-eqb n 0 f in
+      record { refusal = e; firstLost = rw (← e, k) j; secondLost = rw (pair-refusal-swap one two, ← e, k) j′; firstLeft = rw (← e, k); secondLeft = rw (← e, k) }

@@ -49,7 +49,7 @@ record-done : (b : List ℕ) → soundBytes b ≡ true → recordRefusal b ≡ 0
 unfolding recordRefusal
 record-done b s = rw (eq-eqb (length b) 128 (length-sound b s), s)
 
-pair-done : (b c : List ℕ) → soundBytes b ≡ true → soundBytes c ≡ true → pairRefusal b c ≡ 0
+pub pair-done : (b c : List ℕ) → soundBytes b ≡ true → soundBytes c ≡ true → pairRefusal b c ≡ 0
 unfolding pairRefusal
 pair-done b c s t = rw (eq-eqb (length b) 128 (length-sound b s), eq-eqb (length c) 128 (length-sound c t), s, t)
 

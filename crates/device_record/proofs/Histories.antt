@@ -36,7 +36,7 @@ good-decode b s = record { sound = sound-decode b s; fits = fits-decode b s }
 good-cycle : (d : DeviceModel) (x : Pins) → Good d → Good (cycleOf d x)
 good-cycle d x g = record { sound = sound-cycle d x (g .sound); fits = fits-cycle d x (g .sound) (g .fits) }
 
-good-after : (d : DeviceModel) (ins : List ℕ) → Good d → Good (afterBytes d ins)
+pub good-after : (d : DeviceModel) (ins : List ℕ) → Good d → Good (afterBytes d ins)
 unfolding afterBytes
 good-after d [] g = g
 good-after d (p ∷ ps) g = good-after (cycleOf d (pinsOf p)) ps (good-cycle d (pinsOf p) g)

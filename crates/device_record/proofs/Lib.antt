@@ -6,4 +6,5 @@ pub mod Examples
 pub mod Histories
 pub mod Demand3
 pub mod Swap
+pub mod Overrun
 pub mod Polling

@@ -10,10 +10,15 @@ use borrow.Author.Tests.{eq-eqb, ne-eqb}
 use lib.ListN.{length, getD, take, drop, set, length-set, drop-of-length-le}
 use lib.Seq.{drop-cons, take-suc, set-at, length-take-le, take-length, drop-length}
 use Rattle.frames.specs.Lines.{pinsOf, byteOf}
-use Rattle.serial.specs.Cycle.{DeviceModel, deviceOf, cycleOf}
-use Rattle.device_record.specs.Run.{afterBytes, outputs, inputsFit, stopsOn, countUntil, written, served, RunUntil}
+use Rattle.registers.specs.Transfer.{lostWords}
+use Rattle.registers.specs.declared.transfer.Lost.{Lost}
+use Rattle.serial.specs.Cycle.{DeviceModel, deviceOf, cycleOf, lostOf}
+use Rattle.serial.specs.Lost.{highest, noted}
+use Rattle.serial.proofs.Losses.{Noting, noting-begin, noting-turn}
+use Rattle.device_record.specs.Run.{lossesOf, afterBytes, outputs, lostWith, inputsFit, stopsOn, countUntil, written, served, RunUntil}
 use Rattle.device_record.proofs.Bytes.{and-assoc, and-true}
 use Rattle.serial.specs.declared.Device.{Device}
+use Rattle.serial.specs.declared.lost.Losses.{Losses}
 use Rattle.device_record.specs.declared.run.Stop.the-variants.{Never}
 
 -- Input bytes ----------------------------------------------------------------------------------------------------------
@@ -39,6 +44,13 @@ outputs-snoc : (d : DeviceModel) (xs : List ℕ) (x : ℕ) → outputs d (xs ++ 
 unfolding outputs afterBytes
 outputs-snoc d [] x = refl
 outputs-snoc d (y ∷ ys) x = ap (λ (l : List ℕ). byteOf (cycleOf d (pinsOf y) .lines) ∷ l) (outputs-snoc (cycleOf d (pinsOf y)) ys x)
+
+lost-snoc : (d : DeviceModel) (xs : List ℕ) (x : ℕ) → lostWith d (xs ++ (x ∷ [])) ≡ lostWith d xs ++ lostOf (afterBytes d xs) (pinsOf x)
+unfolding lostWith afterBytes
+lost-snoc d [] x = append-nil (lostOf d (pinsOf x))
+lost-snoc d (y ∷ ys) x =
+    ap (λ (l : List ℕ). lostOf d (pinsOf y) ++ l) (lost-snoc (cycleOf d (pinsOf y)) ys x)
+    ∙ sym (append-assoc (lostOf d (pinsOf y)) (lostWith (cycleOf d (pinsOf y)) ys) (lostOf (afterBytes (cycleOf d (pinsOf y)) ys) (pinsOf x)))
 
 pub outputs-length : (d : DeviceModel) (xs : List ℕ) → length (outputs d xs) ≡ length xs
 unfolding outputs
@@ -71,30 +83,33 @@ unfolding written
 written-all d ins outs e = rw (take-length ins, e, drop-length outs, append-nil)
 
 -- Nothing is run where the lengths differ.
-pub run-refused : (stops : DeviceModel → Bool) (d : Device) (ins outs : List ℕ) → (length ins ≡ length outs → ⊥) → RunUntil stops (deviceOf d) ins outs (record { count = 0; device = d }) outs
-unfolding served written countUntil afterBytes outputs
-run-refused stops d ins outs h =
+pub run-refused : (stops : DeviceModel → Bool) (d : Device) (ins outs : List ℕ) (l : Losses) → l ≡ lossesOf [] → (length ins ≡ length outs → ⊥)
+    → RunUntil stops (deviceOf d) ins outs (record { count = 0; lost = l; device = d }) outs
+unfolding served written countUntil afterBytes outputs lostWith
+run-refused stops d ins outs l n h =
     let e = ne-eqb (length ins) (length outs) h in
-    record { count = rw e; device = rw e; output = rw e }
+    record { count = rw e; device = rw e; lost = rw e n; output = rw e }
 
 -- After i cycles: what was done, and what is left of the count.
-pub record Running (stops : DeviceModel → Bool) (d : DeviceModel) (ins outs now : List ℕ) (s : DeviceModel) (i : ℕ) : Type 0 where
+pub record Running (stops : DeviceModel → Bool) (d : DeviceModel) (ins outs now : List ℕ) (s : DeviceModel) (l : Losses) (i : ℕ) : Type 0 where
   pub within : i ≤ length ins
   pub long : length ins ≡ length outs
   pub same : length now ≡ length outs
   pub count : countUntil stops d ins ≡ i + countUntil stops s (drop i ins)
   pub device : s ≡ afterBytes d (take i ins)
+  pub lost : Noting (lostWith d (take i ins)) l i
   pub output : now ≡ outputs d (take i ins) ++ drop i outs
 
-pub run-begin : (stops : DeviceModel → Bool) (d : DeviceModel) (ins outs : List ℕ) → length ins ≡ length outs → Running stops d ins outs outs d 0
-unfolding outputs afterBytes
-run-begin stops d ins outs e = record { within = omega arith; long = e; same = refl; count = omega arith; device = refl; output = refl }
+pub run-begin : (stops : DeviceModel → Bool) (d : DeviceModel) (ins outs : List ℕ) (l : Losses) → l ≡ lossesOf [] → length ins ≡ length outs → Running stops d ins outs outs d l 0
+unfolding outputs afterBytes lostWith
+run-begin stops d ins outs l n e = record { within = omega arith; long = e; same = refl; count = omega arith; device = refl; lost = noting-begin l n; output = refl }
 
-module _ (stops : DeviceModel → Bool) (d : DeviceModel) (ins outs now : List ℕ) (s : DeviceModel) (i : ℕ) (r : Running stops d ins outs now s i) where
-  pub run-turn : (n : DeviceModel) (b : ℕ) → i < length ins → stops s ≡ false → n ≡ cycleOf s (pinsOf (getD ins i 0)) → b ≡ byteOf (n .lines) → Running stops d ins outs (set now i b) n (i + 1)
-  run-turn n b h t e f =
+module _ (stops : DeviceModel → Bool) (d : DeviceModel) (ins outs now : List ℕ) (s : DeviceModel) (l : Losses) (i : ℕ) (r : Running stops d ins outs now s l i) where
+  pub run-turn : (n : DeviceModel) (b : ℕ) (x : Lost) (l′ : Losses) → i < length ins → i < highest → stops s ≡ false → n ≡ cycleOf s (pinsOf (getD ins i 0)) → b ≡ byteOf (n .lines)
+      → lostWords x ≡ lostOf s (pinsOf (getD ins i 0)) → l′ ≡ noted l x → Running stops d ins outs (set now i b) n l′ (i + 1)
+  run-turn n b x l′ h hi t e f g k =
       let c : countUntil stops s (drop i ins) ≡ 1 + countUntil stops n (drop (i + 1) ins) = rw (add-one i, drop-cons ins i 0 h, e) (count-more stops s (getD ins i 0) (drop (suc i) ins) t) in
-      let l : length (outputs d (take i ins)) ≡ i = outputs-length d (take i ins) ∙ length-take-le i ins (omega arith) in
+      let z : length (outputs d (take i ins)) ≡ i = outputs-length d (take i ins) ∙ length-take-le i ins (omega arith) in
       let o : i < length outs = omega (arith, r .long) in
       record {
         within = omega arith;
@@ -102,21 +117,22 @@ module _ (stops : DeviceModel → Bool) (d : DeviceModel) (ins outs now : List �
         same = length-set now i b ∙ r .same;
         count = r .count ∙ omega (arith, c);
         device = e ∙ rw (add-one i, take-suc ins i 0 h, after-snoc, ← r .device);
-        output = ap (λ (z : List ℕ). set z i b) (r .output) ∙ rw (add-one i, drop-cons outs i 0 o, set-at (outputs d (take i ins)) (getD outs i 0) (drop (suc i) outs) b i l, take-suc ins i 0 h, outputs-snoc, ← r .device, f, e, append-assoc);
+        lost = noting-turn _ _ _ l l′ i x (r .lost) hi k g (rw (add-one i, take-suc ins i 0 h, lost-snoc, ← r .device));
+        output = ap (λ (z : List ℕ). set z i b) (r .output) ∙ rw (add-one i, drop-cons outs i 0 o, set-at (outputs d (take i ins)) (getD outs i 0) (drop (suc i) outs) b i z, take-suc ins i 0 h, outputs-snoc, ← r .device, f, e, append-assoc);
       }
 
   module _ (x : Device) (same : deviceOf x ≡ s) where
-    run-stop : countUntil stops d ins ≡ i → RunUntil stops d ins outs (record { count = i; device = x }) now
+    run-stop : countUntil stops d ins ≡ i → RunUntil stops d ins outs (record { count = i; lost = l; device = x }) now
     unfolding written
     run-stop e =
         let a = served-all ins outs (r .long) in
-        record { count = rw a (sym e); device = rw (a, e) (same ∙ r .device); output = rw (a, e) (r .output) }
+        record { count = rw a (sym e); device = rw (a, e) (same ∙ r .device); lost = rw (a, e) (r .lost .tally); output = rw (a, e) (r .output) }
 
     -- the rule holds
-    pub run-held : stops s ≡ true → RunUntil stops d ins outs (record { count = i; device = x }) now
+    pub run-held : stops s ≡ true → RunUntil stops d ins outs (record { count = i; lost = l; device = x }) now
     run-held t = run-stop (r .count ∙ omega (arith, count-none stops s (drop i ins) t))
 
     -- the input ends
-    pub run-ended : length ins ≤ i → RunUntil stops d ins outs (record { count = i; device = x }) now
+    pub run-ended : length ins ≤ i → RunUntil stops d ins outs (record { count = i; lost = l; device = x }) now
     unfolding countUntil
     run-ended h = run-stop (r .count ∙ rw (drop-of-length-le ins {i = i} h) (omega arith))

@@ -1,38 +1,21 @@
 -- The order of two records: a pair run on swapped records leaves what it leaves, swapped, and demand 3's first part holds in either order.
 use Prim.Native.Nat.{ℕ}
 use mathlib.Core.Path.{_≡_, refl, sym, ap, ap₂, _∙_, subst}
-use mathlib.Core.Bool.{Bool, true, false, not, _||_}
 use mathlib.Core.List.{List, [], _∷_}
-use lib.Dec.{eqb}
-use lib.ListN.{length}
-use Rattle.registers.specs.Choose.{pick}
 use Rattle.serial.specs.Pair.{PairModel, swapped}
 use Rattle.serial.specs.Demand3.{Step}
 use Rattle.serial.specs.Demand3.Which.{master, slave}
 use Rattle.serial.specs.Demand3.Step.{read, write}
 use Rattle.serial.proofs.Swap.{swap-run}
-use Rattle.device_record.specs.Record.{decode, soundBytes}
-use Rattle.device_record.specs.Calls.{leftBy, pairRefusal, pairAfter, pairLeft, Records}
+use Rattle.device_record.specs.Record.{decode}
+use Rattle.device_record.specs.Calls.{leftBy, pairAfter, pairLeft, Records}
 use Rattle.device_record.specs.Demand3.{devicesOf, playBytes, playsBytes, steps, playSwapped, playsSwapped, ExchangedSwapped, Demand3Swapped}
+use Rattle.device_record.proofs.Answers.{pair-refusal-swap}
 use Rattle.device_record.proofs.Demand3.{demand3-records}
 
 -- Two records in the other order.
 abbrev swappedRecords : Records → Records
 swappedRecords r = record { one = r .two; two = r .one }
-
-or-swap : (a b : Bool) → (a || b) ≡ (b || a)
-or-swap true true = refl
-or-swap true false = refl
-or-swap false true = refl
-or-swap false false = refl
-
--- Either order is refused with the same number.
-pub pair-refusal-swap : (one two : List ℕ) → pairRefusal two one ≡ pairRefusal one two
-unfolding pairRefusal
-pair-refusal-swap one two =
-    ap₂ (λ (s t : Bool). pick s 10 (pick t 9 0))
-    (or-swap (not (eqb (length two) 128)) (not (eqb (length one) 128)))
-    (or-swap (not (soundBytes two)) (not (soundBytes one)))
 
 pair-after-swap : (one two : List ℕ) (n : ℕ) → pairAfter two one n ≡ swapped (pairAfter one two n)
 unfolding pairAfter

@@ -1,20 +1,22 @@
 -- What each call on records answers, and what it leaves in the bytes that are lent to it. A refused call leaves them all as they were.
 use Prim.Native.Nat.{ℕ}
 use mathlib.Core.Path.{_≡_}
-use mathlib.Core.Bool.{true, not, _||_}
-use mathlib.Core.List.{List}
+use mathlib.Core.Bool.{Bool, true, not, _||_}
+use mathlib.Core.List.{List, [], _++_, map}
 use lib.ListN.{length, take}
 use lib.Dec.{eqb}
 use Rattle.registers.specs.Choose.{pick}
 use Rattle.registers.specs.Refusals.{done, firstOf, refusalOf}
 use Rattle.registers.specs.declared.access.Answer.{Answer}
 use Rattle.registers.specs.declared.access.Answer.the-variants.{Refused}
-use Rattle.serial.specs.Cycle.{DeviceModel, resetDevice}
+use Rattle.frames.specs.Lines.{pinsOf}
+use Rattle.serial.specs.Cycle.{DeviceModel, resetDevice, completedIn}
 use Rattle.serial.specs.Access.{readAnswerOf, readDevice, writeRefusalOf, writeDevice}
-use Rattle.serial.specs.Pair.{PairModel, pairRun}
+use Rattle.serial.specs.Pair.{PairModel, pairRun, pinsRead, pairLost}
 use Rattle.device_record.specs.Record.{recordLength, encoded, decode, soundBytes}
-use Rattle.device_record.specs.Run.{afterBytes, outputs, stopsOn, countUntil, written, wrongLength, unsound, runRefusal}
+use Rattle.device_record.specs.Run.{Losses, lossesOf, afterBytes, outputs, lostWith, stopsOn, countUntil, written, wrongLength, unsound, runRefusal}
 use Rattle.device_record.specs.declared.calls.RunAnswer.{RunAnswer}
+use Rattle.device_record.specs.declared.calls.PairAnswer.{PairAnswer}
 use Rattle.device_record.specs.declared.run.Stop.{Stop}
 use Rattle.device_record.specs.declared.run.Stop.the-variants.{Never}
 
@@ -100,16 +102,22 @@ runLeft stop bytes ins outs = leftBy (runRefusal bytes ins outs) (afterBytes (de
 abbrev pub runOutput : Stop → List ℕ → List ℕ → List ℕ → List ℕ
 runOutput stop bytes ins outs = pick (eqb (runRefusal bytes ins outs) done) (written (decode bytes) (runCount stop bytes ins outs) ins outs) outs
 
--- A run by a stopping rule: its refusal number and count, the record and the output after it.
+-- The words lost in these cycles; none where it is refused.
+unfoldable pub runLost : Stop → List ℕ → List ℕ → List ℕ → List ℕ
+runLost stop bytes ins outs = pick (eqb (runRefusal bytes ins outs) done) (lostWith (decode bytes) (take (runCount stop bytes ins outs) ins)) []
+
+-- A run by a stopping rule: its refusal number and count, how many words were lost and the last of them, the record and the output after it.
 pub record RunCall (stop : Stop) (bytes ins outs : List ℕ) (r : RunAnswer) (bytes′ outs′ : List ℕ) : Type 0 where
   pub refusal : r .refusal ≡ runRefusal bytes ins outs
   pub count : r .count ≡ runCount stop bytes ins outs
+  pub lost : r .lost ≡ lossesOf (runLost stop bytes ins outs)
   pub left : bytes′ ≡ runLeft stop bytes ins outs
   pub output : outs′ ≡ runOutput stop bytes ins outs
 
--- A run that nothing stops is a cycle for each input byte, the lines of each in its place.
+-- A run that nothing stops is a cycle for each input byte, the lines of each in its place; the words lost are those of all these cycles.
 pub record RunsAll : Type 0 where
   pub count : (bytes ins outs : List ℕ) → runCount Never bytes ins outs ≡ pick (eqb (runRefusal bytes ins outs) done) (length ins) 0
+  pub lost : (bytes ins outs : List ℕ) → runLost Never bytes ins outs ≡ pick (eqb (runRefusal bytes ins outs) done) (lostWith (decode bytes) ins) []
   pub left : (bytes ins outs : List ℕ) → runLeft Never bytes ins outs ≡ leftBy (runRefusal bytes ins outs) (afterBytes (decode bytes) ins) bytes
   pub output : (bytes ins outs : List ℕ) → runOutput Never bytes ins outs ≡ pick (eqb (runRefusal bytes ins outs) done) (outputs (decode bytes) ins) outs
 
@@ -122,9 +130,13 @@ pairRefusal one two =
     (pick (not (soundBytes one) || not (soundBytes two)) unsound
     done)
 
--- The two devices of the records, after so many pair cycles.
+-- The two devices of the records.
+abbrev pub pairOfRecords : List ℕ → List ℕ → PairModel
+pairOfRecords one two = record { first = decode one; second = decode two }
+
+-- After so many pair cycles.
 unfoldable pub pairAfter : List ℕ → List ℕ → ℕ → PairModel
-pairAfter one two n = pairRun n (record { first = decode one; second = decode two })
+pairAfter one two n = pairRun n (pairOfRecords one two)
 
 -- Two records.
 pub record Records : Type 0 where
@@ -139,11 +151,55 @@ pairLeft one two n =
       two = leftBy (pairRefusal one two) (pairAfter one two n .second) two;
     }
 
--- A pair run: its refusal number, and both records after it.
-pub record PairCall (one two : List ℕ) (n r : ℕ) (one′ two′ : List ℕ) : Type 0 where
-  pub refusal : r ≡ pairRefusal one two
-  pub first : one′ ≡ pairLeft one two n .one
-  pub second : two′ ≡ pairLeft one two n .two
+-- The words that the first record's device loses in them; none where it is refused.
+unfoldable pub pairCallLost : List ℕ → List ℕ → ℕ → List ℕ
+pairCallLost one two n = pick (eqb (pairRefusal one two) done) (pairLost n (pairOfRecords one two)) []
+
+-- A pair run: its refusal number, how many words each device lost and the last of them, and both records after it. The second's losses are those of the first with the records in the other order.
+pub record PairCall (one two : List ℕ) (n : ℕ) (r : PairAnswer) (one′ two′ : List ℕ) : Type 0 where
+  pub refusal : r .refusal ≡ pairRefusal one two
+  pub firstLost : r .first ≡ lossesOf (pairCallLost one two n)
+  pub secondLost : r .second ≡ lossesOf (pairCallLost two one n)
+  pub firstLeft : one′ ≡ pairLeft one two n .one
+  pub secondLeft : two′ ≡ pairLeft one two n .two
+
+-- Lost words --------------------------------------------------------------------------------------------------------------
+
+-- ROR in a record.
+abbrev pub rorIn : List ℕ → Bool
+rorIn bytes = decode bytes .registers .ror
+
+-- The words received in a record, oldest first.
+abbrev pub heldIn : List ℕ → List ℕ
+heldIn bytes = decode bytes .registers .rx
+
+-- A count that is not 0.
+abbrev pub anyLost : Losses → Bool
+anyLost l = not (eqb (l .count) 0)
+
+-- ROR after a run, with either stop, is ROR before it, or some word was lost in it, by the count handed up; the same of each record of a pair run. Refused calls too.
+pub record RorAgrees : Type 0 where
+  pub run : (stop : Stop) (bytes ins outs : List ℕ) → rorIn (runLeft stop bytes ins outs) ≡ (rorIn bytes || anyLost (lossesOf (runLost stop bytes ins outs)))
+  pub first : (one two : List ℕ) (n : ℕ) → rorIn (pairLeft one two n .one) ≡ (rorIn one || anyLost (lossesOf (pairCallLost one two n)))
+  pub second : (one two : List ℕ) (n : ℕ) → rorIn (pairLeft one two n .two) ≡ (rorIn two || anyLost (lossesOf (pairCallLost two one n)))
+
+-- Words completed between two records, and what was handed up of them: those held before, then those completed, are those held after, then those lost.
+pub record Accounted (before completed after : List ℕ) (l : Losses) : Type 0 where
+  pub lost : List ℕ
+  pub words : heldIn before ++ completed ≡ heldIn after ++ lost
+  pub handed : l ≡ lossesOf lost
+
+-- It holds of the answer of every run that is done, and of both answers of a pair run.
+pub record AllAccounted : Type 0 where
+  pub run :
+      (stop : Stop) (bytes ins outs : List ℕ) (r : RunAnswer) (bytes′ outs′ : List ℕ) → RunCall stop bytes ins outs r bytes′ outs′ → r .refusal ≡ done
+      → Accounted bytes (completedIn (decode bytes) (map pinsOf (take (r .count) ins))) bytes′ (r .lost)
+  pub first :
+      (one two : List ℕ) (n : ℕ) (r : PairAnswer) (one′ two′ : List ℕ) → PairCall one two n r one′ two′ → r .refusal ≡ done
+      → Accounted one (completedIn (decode one) (pinsRead n (pairOfRecords one two))) one′ (r .first)
+  pub second :
+      (one two : List ℕ) (n : ℕ) (r : PairAnswer) (one′ two′ : List ℕ) → PairCall one two n r one′ two′ → r .refusal ≡ done
+      → Accounted two (completedIn (decode two) (pinsRead n (pairOfRecords two one))) two′ (r .second)
 
 -- Histories ------------------------------------------------------------------------------------------------------------
 

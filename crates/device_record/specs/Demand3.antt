@@ -10,16 +10,16 @@ use Rattle.frames.specs.Bits.{cut}
 use Rattle.frames.specs.Lines.{pinsOf}
 use Rattle.frames.specs.Slots.{widthOf}
 use Rattle.serial.specs.Pair.{PairModel, pairRun, swapped}
-use Rattle.serial.specs.Demand3.{Step, plays, cyclesIn, Stays, Start, Exchanged, slaveEnabled, enables, inEdition, Enabling, WholeLoad}
+use Rattle.serial.specs.Demand3.{Step, plays, cyclesIn, Stays, Start, lost, Exchanged, slaveEnabled, enables, inEdition, Enabling, WholeLoad}
 use Rattle.serial.specs.Demand3.Which.{master, slave}
 use Rattle.serial.specs.Demand3.Step.{cycle, read, write}
 use Rattle.device_record.specs.Record.{decode, soundBytes}
 use Rattle.device_record.specs.Run.{outputs}
-use Rattle.device_record.specs.Calls.{Records, readLeft, writeLeft, pairLeft}
+use Rattle.device_record.specs.Calls.{Records, pairOfRecords, readLeft, writeLeft, pairLeft, pairCallLost}
 
 -- The devices that two records stand for.
 abbrev pub devicesOf : Records → PairModel
-devicesOf r = record { first = decode (r .one); second = decode (r .two) }
+devicesOf r = pairOfRecords (r .one) (r .two)
 
 -- What a pair run of n cycles leaves.
 abbrev pub runBytes : ℕ → Records → Records
@@ -58,6 +58,11 @@ abbrev pub Demand3Records : Type 0
 Demand3Records =
     (r : Records) (pre mid : List Step) → SoundRecords r → Start (devicesOf r) → 4 ≤ cyclesIn pre → Stays pre (devicesOf r) → Stays mid (slaveEnabled pre (devicesOf r))
     → ExchangedRecords (playsBytes (steps pre mid (devicesOf r)) r)
+
+-- What a pair run on sound records hands up is what their devices lose: under demand 3 the words due that found no place (serial `LostOfDue`).
+pub record LostRecords : Type 0 where
+  pub master-lost : (r : Records) (n : ℕ) → SoundRecords r → pairCallLost (r .one) (r .two) n ≡ lost master n (devicesOf r)
+  pub slave-lost : (r : Records) (n : ℕ) → SoundRecords r → pairCallLost (r .two) (r .one) n ≡ lost slave n (devicesOf r)
 
 -- The last sentence: the bytes that a run gives after the write that enabled a master, of either edition, determine its load, cut.
 abbrev pub LastSentenceRecords : Type 0

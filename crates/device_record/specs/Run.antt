@@ -8,7 +8,9 @@ use lib.Dec.{leb, eqb}
 use Rattle.registers.specs.Choose.{pick}
 use Rattle.registers.specs.Refusals.{done}
 use Rattle.frames.specs.Lines.{pinsOf, byteOf}
-use Rattle.serial.specs.Cycle.{DeviceModel, deviceOf, cycleOf, after, recording}
+use Rattle.serial.specs.Cycle.{DeviceModel, deviceOf, cycleOf, after, recording, lostIn}
+pub use Rattle.serial.specs.Lost.{lossesOf}
+pub use Rattle.serial.specs.declared.lost.Losses.{Losses}
 use Rattle.serial.specs.Busy.{busyDevice}
 use Rattle.device_record.specs.Record.{recordLength, soundBytes}
 use Rattle.device_record.specs.declared.run.Stop.{Stop}
@@ -22,6 +24,10 @@ afterBytes d ins = after d (map pinsOf ins)
 -- The output bytes: the lines of each of these cycles.
 unfoldable pub outputs : DeviceModel → List ℕ → List ℕ
 outputs d ins = map byteOf (recording d (map pinsOf ins))
+
+-- The words lost in these cycles.
+unfoldable pub lostWith : DeviceModel → List ℕ → List ℕ
+lostWith d ins = lostIn d (map pinsOf ins)
 
 -- An input byte has three levels, so it is at most 7.
 unfoldable pub inputsFit : List ℕ → Bool
@@ -50,6 +56,7 @@ served ins outs = pick (eqb (length ins) (length outs)) ins []
 pub record RunUntil (stops : DeviceModel → Bool) (d : DeviceModel) (ins outs : List ℕ) (r : Ran) (outs′ : List ℕ) : Type 0 where
   pub count : r .count ≡ countUntil stops d (served ins outs)
   pub device : deviceOf (r .device) ≡ afterBytes d (take (countUntil stops d (served ins outs)) ins)
+  pub lost : r .lost ≡ lossesOf (lostWith d (take (countUntil stops d (served ins outs)) ins))
   pub output : outs′ ≡ written d (countUntil stops d (served ins outs)) ins outs
 
 -- Refusals -------------------------------------------------------------------------------------------------------------

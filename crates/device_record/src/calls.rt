@@ -6,6 +6,7 @@ ghost use Rattle.device_record.specs.Calls.{resetRefusal, recordRefusal,
 use crate::record::RECORD_LENGTH;
 use crate::run::Stop;
 use registers::access::Answer;
+use serial::lost::Losses;
 use serial::pair::Wired;
 
 // Refusal numbers, in the order in which they are checked; those of an access come after them.
@@ -31,6 +32,16 @@ pub struct RunAnswer {
     pub refusal: u8,
     // cycles run, 0 where it is refused
     pub count: usize,
+    // what was lost in them, zeros where it is refused
+    pub lost: Losses,
+}
+
+// What a pair run answers.
+pub struct PairAnswer {
+    pub refusal: u8,
+    // what each device lost, zeros where it is refused
+    pub first: Losses,
+    pub second: Losses,
 }
 
 fn reset_refusal(bytes: &[u8], edition: u32) -> u8
@@ -137,7 +148,7 @@ pub fn write_call(bytes: &mut [u8], offset: u32, value: u32) -> u8
     written.refusal
 }
 
-// Runs cycles up to a stopping rule, and counts them.
+// Runs cycles up to a stopping rule, and counts them and the words lost in them.
 pub fn run_call(stop: Stop, bytes: &mut [u8], input: &[u8], output: &mut [u8]) -> RunAnswer
     ensures { λ r. ⌜ RunCall stop (now (bytes .entry)) (now (input .entry)) (now (output .entry)) r (now (bytes .exit)) (now (output .exit)) ⌝ }
 {
@@ -145,16 +156,22 @@ pub fn run_call(stop: Stop, bytes: &mut [u8], input: &[u8], output: &mut [u8]) -
     if refusal == DONE {
         let ran = crate::run::run_until(stop, crate::record::decode(bytes), input, output);
         crate::record::encode(ran.device, bytes);
+        let lost = ran.lost;
         return RunAnswer {
             refusal: DONE,
             count: ran.count,
+            lost,
         };
     }
-    RunAnswer { refusal, count: 0 }
+    RunAnswer {
+        refusal,
+        count: 0,
+        lost: serial::lost::none_lost(),
+    }
 }
 
-// Runs two wired devices for so many cycles.
-pub fn pair_call(first: &mut [u8], second: &mut [u8], cycles: u64) -> u8
+// Runs two wired devices for so many cycles, and counts the words that each lost in them.
+pub fn pair_call(first: &mut [u8], second: &mut [u8], cycles: u64) -> PairAnswer
     ensures { λ r. ⌜ PairCall (now (first .entry)) (now (second .entry)) cycles r (now (first .exit)) (now (second .exit)) ⌝ }
 {
     let refusal = pair_refusal(first, second);
@@ -164,8 +181,20 @@ pub fn pair_call(first: &mut [u8], second: &mut [u8], cycles: u64) -> u8
             second: crate::record::decode(second),
         };
         let end = serial::pair::pair_run(start, cycles);
-        crate::record::encode(end.first, first);
-        crate::record::encode(end.second, second);
+        let pair = end.pair;
+        crate::record::encode(pair.first, first);
+        crate::record::encode(pair.second, second);
+        let first_lost = end.first;
+        let second_lost = end.second;
+        return PairAnswer {
+            refusal: DONE,
+            first: first_lost,
+            second: second_lost,
+        };
     }
-    refusal
+    PairAnswer {
+        refusal,
+        first: serial::lost::none_lost(),
+        second: serial::lost::none_lost(),
+    }
 }

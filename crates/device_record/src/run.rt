@@ -5,6 +5,7 @@ ghost use Rattle.serial.specs.Busy.{busyDevice};
 ghost use Rattle.device_record.specs.Run.{inputsFit, stopsOn, RunUntil};
 use registers::access::Answer;
 use serial::Device;
+use serial::lost::Losses;
 
 // The offset of SR, and the place of BSY in it.
 const STATUS: u32 = 0x0C;
@@ -22,9 +23,10 @@ pub enum Stop {
     NotBusy,
 }
 
-// The cycles run, and the device after them.
+// The cycles run, what was lost in them, and the device after them.
 pub struct Ran {
     pub count: usize,
+    pub lost: Losses,
     pub device: Device,
 }
 
@@ -67,20 +69,37 @@ fn stops_on(stop: Stop, d: Device) -> bool
 pub fn run_until(stop: Stop, d: Device, input: &[u8], output: &mut [u8]) -> Ran
     ensures { λ r. ⌜ RunUntil (stopsOn stop) (deviceOf d) (now (input .entry)) (now (output .entry)) r (now (output .exit)) ⌝ }
 {
-    let mut device = d;
+    let mut now = serial::cycle::not_run(d);
+    let mut lost = serial::lost::none_lost();
     let mut i: usize = 0;
     if input.len() != output.len() {
-        return Ran { count: 0, device };
+        return Ran {
+            count: 0,
+            lost,
+            device: d,
+        };
     }
     while i < input.len() {
-        let done = stops_on(stop, device);
+        let done = stops_on(stop, now.device);
         if done {
-            return Ran { count: i, device };
+            let device = now.device;
+            return Ran {
+                count: i,
+                lost,
+                device,
+            };
         }
         let pins = frames::lines::pins_of(input[i]);
-        device = serial::cycle::cycle_of(device, pins);
-        output[i] = frames::lines::byte_of(device.lines);
+        now = serial::cycle::cycle_of(now.device, pins);
+        let lost_now = now.lost;
+        lost = serial::lost::noted(lost, lost_now);
+        output[i] = frames::lines::byte_of(now.device.lines);
         i += 1;
     }
-    Ran { count: i, device }
+    let device = now.device;
+    Ran {
+        count: i,
+        lost,
+        device,
+    }
 }

@@ -5,14 +5,18 @@ use mathlib.Core.List.{List}
 use Rattle.registers.specs.Refusals.{refusalOf, wordOf}
 use Rattle.registers.specs.declared.access.Answer.{Answer}
 use Rattle.registers.specs.declared.access.Answer.the-variants.{Word, Refused}
-use Rattle.device_record.specs.Calls.{ReadCall, RunCall}
+use Rattle.device_record.specs.Run.{Losses, lossesOf}
+use Rattle.device_record.specs.Calls.{runLost, pairCallLost, ReadCall, RunCall, PairCall}
 use Rattle.device_record.specs.declared.calls.RunAnswer.{RunAnswer}
-use Rattle.device_record.specs.declared.run.Stop.the-variants.{Never}
+use Rattle.device_record.specs.declared.calls.PairAnswer.{PairAnswer}
+use Rattle.device_record.specs.declared.run.Stop.{Stop}
 use Rattle.text.specs.Write.{WrittenNumbers, writtenNumbers, WriteText}
 use Rattle.text.specs.Read.{ReadingNumbers, readingNumbers, ReadText}
 use Rattle.text.specs.declared.write.Written.{Written}
 use Rattle.text.specs.declared.read.Reading.{Reading}
-use Rattle.pl022.specs.Results.{ReadResult, RunResult, WriteTextResult, ReadTextResult}
+use Rattle.pl022.specs.Results.{ReadResult, lostNumbers, RunResult, ranNumbers, PairResult, WriteTextResult, ReadTextResult}
+use Rattle.pl022.specs.declared.LostResult.{LostResult}
+use Rattle.pl022.specs.declared.RanResult.{RanResult}
 
 module _ (b : List ℕ) (o : ℕ) (a : Answer) (b′ : List ℕ) (g : ReadCall b o a b′) where
   pub read-word : (w : ℕ) → a ≡ Word w → ReadResult b o (record { refusal = 0; word = w }) b′
@@ -23,8 +27,32 @@ module _ (b : List ℕ) (o : ℕ) (a : Answer) (b′ : List ℕ) (g : ReadCall b
   pub read-refused : (k n : ℕ) → a ≡ Refused k → n ≡ refusalOf a → ReadResult b o (record { refusal = n; word = 0 }) b′
   read-refused k n q e = record { refusal = e ∙ ap refusalOf (g .answer); word = ap wordOf (sym q ∙ g .answer); left = g .left }
 
-pub run-every : (b i o : List ℕ) (r : RunAnswer) (b′ o′ : List ℕ) → RunCall Never b i o r b′ o′ → RunResult b i o (r .refusal) b′ o′
-run-every b i o r b′ o′ g = record { refusal = g .refusal; left = g .left; output = g .output }
+-- What was lost, as numbers of C.
+lost-numbers : (l : Losses) (ws : List ℕ) → l ≡ lossesOf ws → _≡_ {A = LostResult} (record { count = l .count; last = l .last }) (lostNumbers ws)
+lost-numbers l ws e = ap (λ (x : Losses). record { count = x .count; last = x .last }) e
+
+-- A run, with either stop.
+pub run-numbers : (stop : Stop) (b i o : List ℕ) (a : RunAnswer) (r : RanResult) (b′ o′ : List ℕ) → RunCall stop b i o a b′ o′ → r ≡ ranNumbers a → RunResult stop b i o r b′ o′
+run-numbers stop b i o a r b′ o′ g e =
+    rw e
+    (record {
+      refusal = g .refusal;
+      count = g .count;
+      lost = lost-numbers (a .lost) (runLost stop b i o) (g .lost);
+      left = g .left;
+      output = g .output;
+    })
+
+pub pair-numbers : (one two : List ℕ) (n : ℕ) (a : PairAnswer) (one′ two′ : List ℕ) → PairCall one two n a one′ two′
+    → PairResult one two n (record { refusal = a .refusal; first = record { count = a .first .count; last = a .first .last }; second = record { count = a .second .count; last = a .second .last } }) one′ two′
+pair-numbers one two n a one′ two′ g =
+    record {
+      refusal = g .refusal;
+      firstLost = lost-numbers (a .first) (pairCallLost one two n) (g .firstLost);
+      secondLost = lost-numbers (a .second) (pairCallLost two one n) (g .secondLost);
+      firstLeft = g .firstLeft;
+      secondLeft = g .secondLeft;
+    }
 
 -- Either case of a text's answer.
 

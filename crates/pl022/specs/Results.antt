@@ -3,14 +3,18 @@ use Prim.Native.Nat.{ℕ}
 use mathlib.Core.Path.{_≡_}
 use mathlib.Core.List.{List}
 use Rattle.registers.specs.Refusals.{refusalOf, wordOf}
-use Rattle.device_record.specs.Run.{runRefusal}
-use Rattle.device_record.specs.Calls.{readCall, readLeft, runCount, runLeft, runOutput}
-use Rattle.device_record.specs.declared.run.Stop.the-variants.{Never, NotBusy}
+use Rattle.device_record.specs.Run.{lossesOf, runRefusal}
+use Rattle.device_record.specs.Calls.{readCall, readLeft, runCount, runLost, runLeft, runOutput, pairRefusal, pairCallLost, pairLeft}
+use Rattle.device_record.specs.declared.run.Stop.{Stop}
+use Rattle.device_record.specs.declared.calls.RunAnswer.{RunAnswer}
 use Rattle.text.specs.Write.{writtenNumbers, writeAnswer, writeLeft}
 use Rattle.text.specs.Read.{cyclesIn, startsIn, readRefusal, readingNumbers, readAnswer, readInto}
 use Rattle.pl022.specs.declared.WordResult.{WordResult}
 use Rattle.pl022.specs.declared.CountResult.{CountResult}
 use Rattle.pl022.specs.declared.TextResult.{TextResult}
+use Rattle.pl022.specs.declared.LostResult.{LostResult}
+use Rattle.pl022.specs.declared.RanResult.{RanResult}
+use Rattle.pl022.specs.declared.PairRanResult.{PairRanResult}
 
 -- A read: a word with refusal 0, or a refusal number with word 0.
 pub record ReadResult (bytes : List ℕ) (o : ℕ) (r : WordResult) (bytes′ : List ℕ) : Type 0 where
@@ -18,18 +22,29 @@ pub record ReadResult (bytes : List ℕ) (o : ℕ) (r : WordResult) (bytes′ : 
   pub word : r .word ≡ wordOf (readCall bytes o)
   pub left : bytes′ ≡ readLeft bytes o
 
--- A run, which nothing stops: a cycle for each input byte, the lines of each in its place of the output.
-pub record RunResult (bytes ins outs : List ℕ) (r : ℕ) (bytes′ outs′ : List ℕ) : Type 0 where
-  pub refusal : r ≡ runRefusal bytes ins outs
-  pub left : bytes′ ≡ runLeft Never bytes ins outs
-  pub output : outs′ ≡ runOutput Never bytes ins outs
+-- Words lost to overrun: how many, and the last of them, 0 if none.
+abbrev pub lostNumbers : List ℕ → LostResult
+lostNumbers ws = record { count = lossesOf ws .count; last = lossesOf ws .last }
 
--- A run to idle: as many cycles as the count says; output bytes past them stay.
-pub record IdleResult (bytes ins outs : List ℕ) (r : CountResult) (bytes′ outs′ : List ℕ) : Type 0 where
+-- A run with either stop: as many cycles as the count says, the lines of each in its place of the output, whose bytes past them stay; the numbers of the words lost in them.
+pub record RunResult (stop : Stop) (bytes ins outs : List ℕ) (r : RanResult) (bytes′ outs′ : List ℕ) : Type 0 where
   pub refusal : r .refusal ≡ runRefusal bytes ins outs
-  pub count : r .count ≡ runCount NotBusy bytes ins outs
-  pub left : bytes′ ≡ runLeft NotBusy bytes ins outs
-  pub output : outs′ ≡ runOutput NotBusy bytes ins outs
+  pub count : r .count ≡ runCount stop bytes ins outs
+  pub lost : r .lost ≡ lostNumbers (runLost stop bytes ins outs)
+  pub left : bytes′ ≡ runLeft stop bytes ins outs
+  pub output : outs′ ≡ runOutput stop bytes ins outs
+
+-- A run's answer as numbers.
+abbrev pub ranNumbers : RunAnswer → RanResult
+ranNumbers a = record { refusal = a .refusal; count = a .count; lost = record { count = a .lost .count; last = a .lost .last } }
+
+-- A pair run: both records after so many cycles, and the numbers of the words that each device lost in them.
+pub record PairResult (one two : List ℕ) (n : ℕ) (r : PairRanResult) (one′ two′ : List ℕ) : Type 0 where
+  pub refusal : r .refusal ≡ pairRefusal one two
+  pub firstLost : r .first ≡ lostNumbers (pairCallLost one two n)
+  pub secondLost : r .second ≡ lostNumbers (pairCallLost two one n)
+  pub firstLeft : one′ ≡ pairLeft one two n .one
+  pub secondLeft : two′ ≡ pairLeft one two n .two
 
 -- Writing a text: as many bytes as the count says; bytes past them stay.
 pub record WriteTextResult (cs ps buffer : List ℕ) (r : CountResult) (buffer′ : List ℕ) : Type 0 where

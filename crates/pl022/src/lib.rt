@@ -1,7 +1,10 @@
 // The calls for C: numbers, the 128 bytes of a record, line bytes and texts. include/pl022.h describes them for a C programmer.
 // Each hands its arguments to a crate below and its answer back; no rule of the device or of a text stands here.
-ghost use Rattle.device_record.specs.Calls.{firstEdition, ResetCall, WriteCall, PairCall};
-ghost use Rattle.pl022.specs.Results.{ReadResult, RunResult, IdleResult, WriteTextResult, ReadTextResult};
+ghost use mathlib.Core.Path.{_≡_};
+ghost use Rattle.device_record.specs.Calls.{firstEdition, ResetCall, WriteCall};
+ghost use Rattle.device_record.specs.declared.run.Stop.the-variants.{Never, NotBusy};
+ghost use Rattle.pl022.specs.Results.{ReadResult, ranNumbers, RunResult, PairResult, WriteTextResult, ReadTextResult};
+use device_record::calls::RunAnswer;
 use device_record::run::Stop;
 use registers::access::Answer;
 use text::read::Reading;
@@ -15,11 +18,38 @@ pub struct WordResult {
     pub word: u32,
 }
 
-// What a run to idle and the writing of a text answer.
+// Words lost to overrun.
+#[repr(C)]
+pub struct LostResult {
+    pub count: u64,
+    // the last of them, 0 if none
+    pub last: u64,
+}
+
+// What a run answers.
+#[repr(C)]
+pub struct RanResult {
+    pub refusal: u64,
+    // cycles run, 0 where it is refused
+    pub count: u64,
+    // in these cycles
+    pub lost: LostResult,
+}
+
+// What a pair run answers.
+#[repr(C)]
+pub struct PairRanResult {
+    pub refusal: u64,
+    // by each device; zeros where it is refused
+    pub first: LostResult,
+    pub second: LostResult,
+}
+
+// What the writing of a text answers.
 #[repr(C)]
 pub struct CountResult {
     pub refusal: u64,
-    // cycles run or bytes written, 0 where it is refused
+    // bytes written, 0 where it is refused
     pub count: u64,
 }
 
@@ -75,37 +105,53 @@ pub extern "C" fn pl022_write(bytes: &mut [u8], offset: u32, value: u32) -> u32
     device_record::calls::write_call(bytes, offset, value) as u32
 }
 
-// Runs a cycle for each input byte and writes the lines of each.
-#[no_mangle]
-pub extern "C" fn pl022_run(bytes: &mut [u8], input: &[u8], output: &mut [u8]) -> u32
-    ensures { λ r. ⌜ RunResult (now (bytes .entry)) (now (input .entry)) (now (output .entry)) r (now (bytes .exit)) (now (output .exit)) ⌝ }
+// A run's answer as numbers.
+fn ran_numbers(end: RunAnswer) -> RanResult
+    ensures { λ r. ⌜ r ≡ ranNumbers end ⌝ }
 {
-    let end = device_record::calls::run_call(Stop::Never, bytes, input, output);
-    end.refusal as u32
-}
-
-// Runs until a cycle ends with BSY 0 or the input ends, and returns the number of cycles run.
-#[no_mangle]
-pub extern "C" fn pl022_run_to_idle(
-    bytes: &mut [u8],
-    input: &[u8],
-    output: &mut [u8],
-) -> CountResult
-    ensures { λ r. ⌜ IdleResult (now (bytes .entry)) (now (input .entry)) (now (output .entry)) r (now (bytes .exit)) (now (output .exit)) ⌝ }
-{
-    let end = device_record::calls::run_call(Stop::NotBusy, bytes, input, output);
-    CountResult {
+    RanResult {
         refusal: end.refusal as u64,
         count: end.count as u64,
+        lost: LostResult {
+            count: end.lost.count,
+            last: end.lost.last,
+        },
     }
+}
+
+// Runs a cycle for each input byte and writes the lines of each.
+#[no_mangle]
+pub extern "C" fn pl022_run(bytes: &mut [u8], input: &[u8], output: &mut [u8]) -> RanResult
+    ensures { λ r. ⌜ RunResult Never (now (bytes .entry)) (now (input .entry)) (now (output .entry)) r (now (bytes .exit)) (now (output .exit)) ⌝ }
+{
+    ran_numbers(device_record::calls::run_call(Stop::Never, bytes, input, output))
+}
+
+// Runs until a cycle ends with BSY 0 or the input ends.
+#[no_mangle]
+pub extern "C" fn pl022_run_to_idle(bytes: &mut [u8], input: &[u8], output: &mut [u8]) -> RanResult
+    ensures { λ r. ⌜ RunResult NotBusy (now (bytes .entry)) (now (input .entry)) (now (output .entry)) r (now (bytes .exit)) (now (output .exit)) ⌝ }
+{
+    ran_numbers(device_record::calls::run_call(Stop::NotBusy, bytes, input, output))
 }
 
 // Runs two wired devices for so many cycles.
 #[no_mangle]
-pub extern "C" fn pl022_pair_run(first: &mut [u8], second: &mut [u8], cycles: u64) -> u32
-    ensures { λ r. ⌜ PairCall (now (first .entry)) (now (second .entry)) cycles r (now (first .exit)) (now (second .exit)) ⌝ }
+pub extern "C" fn pl022_pair_run(first: &mut [u8], second: &mut [u8], cycles: u64) -> PairRanResult
+    ensures { λ r. ⌜ PairResult (now (first .entry)) (now (second .entry)) cycles r (now (first .exit)) (now (second .exit)) ⌝ }
 {
-    device_record::calls::pair_call(first, second, cycles) as u32
+    let end = device_record::calls::pair_call(first, second, cycles);
+    PairRanResult {
+        refusal: end.refusal as u64,
+        first: LostResult {
+            count: end.first.count,
+            last: end.first.last,
+        },
+        second: LostResult {
+            count: end.second.count,
+            last: end.second.last,
+        },
+    }
 }
 
 // Writes a recording as text, a line from each place on.

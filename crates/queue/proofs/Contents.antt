@@ -2,7 +2,6 @@
 use Prim.Native.Nat.{ℕ, zero, suc, _+_, _-_, _≤_, _<_}
 use mathlib.Core.Path.{_≡_, refl, sym, ap, _∙_}
 use mathlib.Core.List.{List, [], _∷_, _++_}
-use mathlib.Core.Bool.{true, false}
 use native.Mathlib.Omega.{arith}
 use native.Mathlib.Numerals.{add-one}
 use native.Mathlib.Decide.{decLt}
@@ -11,8 +10,9 @@ use lib.Seq.{length-take-le, take-all, take-suc-set, getD-set-other, getD-take, 
 use borrow.Author.Tests.{lt-ltb, le-ltb}
 use Rattle.queue.specs.declared.Queue.{Queue}
 use Rattle.queue.specs.declared.Oldest.the-variants.{Word, Nothing}
+use Rattle.queue.specs.declared.Dropped.{Dropped}
 use Rattle.queue.specs.Fifo.Inside.{contents-of, clean-intro, clean-elim}
-use Rattle.queue.specs.Fifo.{contents, usedWord, added, oldest, Empty, Add, TakeOldest, Restored}
+use Rattle.queue.specs.Fifo.{contents, usedWord, added, dropped, oldest, Empty, Add, TakeOldest, Restored}
 
 -- the count
 
@@ -35,20 +35,20 @@ empty-holds = record { holds = contents-of _; clean = clean-intro _ (λ i h. zer
 
 -- adding a word
 
-pub added-full : (q : Queue) (w : ℕ) → length (q .words) ≡ 8 → 8 ≤ q .count → Add q w (record { kept = false; queue = q })
-unfolding added
+pub added-full : (q : Queue) (w : ℕ) → length (q .words) ≡ 8 → 8 ≤ q .count → Add q w (record { dropped = Dropped.Word w; queue = q })
+unfolding added dropped
 added-full q w long h =
     record {
-      kept = rw (count-full q long h);
+      dropped = rw (count-full q long h);
       holds = rw (count-full q long h);
       clean = λ c. c;
     }
 
-pub added-room : (q : Queue) (w : ℕ) → length (q .words) ≡ 8 → q .count < 8 → Add q w (record { kept = true; queue = record { words = set (q .words) (q .count) w; count = q .count + 1 } })
-unfolding added
+pub added-room : (q : Queue) (w : ℕ) → length (q .words) ≡ 8 → q .count < 8 → Add q w (record { dropped = Dropped.Nothing; queue = record { words = set (q .words) (q .count) w; count = q .count + 1 } })
+unfolding added dropped
 added-room q w long h =
     record {
-      kept = rw (count-below q long h, lt-ltb (q .count) 8 h);
+      dropped = rw (count-below q long h, lt-ltb (q .count) 8 h);
       holds = contents-of _ ∙ rw (count-below q long h, lt-ltb (q .count) 8 h, contents-of q, add-one, take-suc-set (q .words) (q .count) w (omega arith));
       clean = λ c. clean-intro _ (λ i p. getD-set-other (q .words) (q .count) i w 0 (omega arith) ∙ clean-elim q c i (omega arith));
     }

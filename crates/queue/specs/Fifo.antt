@@ -6,6 +6,7 @@ use lib.ListN.{length, getD, take}
 use lib.Dec.{ltb}
 use Rattle.queue.specs.Choose.{pick}
 use Rattle.queue.specs.declared.Queue.{Queue}
+use Rattle.queue.specs.declared.Dropped.{Dropped}
 use Rattle.queue.specs.declared.Added.{Added}
 use Rattle.queue.specs.declared.Taken.{Taken}
 use Rattle.queue.specs.declared.Oldest.{Oldest}
@@ -46,6 +47,15 @@ wordAt xs i = getD xs i 0
 unfoldable pub added : List ℕ → ℕ → List ℕ
 added xs w = pick (ltb (length xs) places) (xs ++ (w ∷ [])) xs
 
+-- The words that adding drops: this one if eight are held, none otherwise.
+unfoldable pub dropped : List ℕ → ℕ → List ℕ
+dropped xs w = pick (ltb (length xs) places) [] (w ∷ [])
+
+-- The words of each case of the answer.
+abbrev pub droppedWords : Dropped → List ℕ
+droppedWords (Dropped.Word w) = w ∷ []
+droppedWords Dropped.Nothing = []
+
 -- No word is held.
 pub record Empty (r : Queue) : Type 0 where
   pub holds : contents r ≡ []
@@ -56,9 +66,9 @@ pub record Count (q : Queue) (r : ℕ) : Type 0 where
   pub count : r ≡ length (contents q)
   pub most : r ≤ places
 
--- A word is added and kept, unless eight are held: then it is dropped and the eight stay.
+-- A word is added and kept, unless eight are held: then it is dropped and handed back, and the eight stay.
 pub record Add (q : Queue) (w : ℕ) (r : Added) : Type 0 where
-  pub kept : r .kept ≡ ltb (length (contents q)) places
+  pub dropped : droppedWords (r .dropped) ≡ dropped (contents q) w
   pub holds : contents (r .queue) ≡ added (contents q) w
   pub clean : Clean q → Clean (r .queue)
 

@@ -12,9 +12,15 @@ pub struct Queue {
     count: usize,
 }
 
-// What adding a word gives: whether it went in, and the queue.
+// The word that was dropped, or that there is none.
+pub enum Dropped {
+    Word(u16),
+    Nothing,
+}
+
+// What adding a word gives: that word if it was dropped, and the queue.
 pub struct Added {
-    pub kept: bool,
+    pub dropped: Dropped,
     pub queue: Queue,
 }
 
@@ -48,14 +54,14 @@ pub fn count(q: Queue) -> usize
     if n < PLACES { n } else { PLACES }
 }
 
-// The queue with one word more at its end; a full queue stays as it is.
+// The queue with one word more at its end; a full queue stays as it is, and the word is handed back.
 pub fn add(q: Queue, word: u16) -> Added
     ensures { λ r. ⌜ Add q word r ⌝ }
 {
     let n = q.count;
     if PLACES <= n {
         return Added {
-            kept: false,
+            dropped: Dropped::Word(word),
             queue: q,
         };
     }
@@ -63,7 +69,7 @@ pub fn add(q: Queue, word: u16) -> Added
     next.words[n] = word;
     next.count = n + 1;
     Added {
-        kept: true,
+        dropped: Dropped::Nothing,
         queue: next,
     }
 }

@@ -1,8 +1,10 @@
-// Prints recordings of every format through the proved code, a line each: a name, then a digit a cycle.
-// What it must write was made before: P1 to P5, the Microwire slaves and the ports stopped in a frame by hand from the rules of docs/MODEL.md, the others by the second program in compare/.
+// Prints recordings of every format through the proved code, a line each: a name, then a digit a cycle; of lost words a point or the word a cycle.
+// What it must write was made before: P1 to P5, the Microwire slaves, the ports stopped in a frame and the words lost by hand from the rules of docs/MODEL.md, the others by the second program in compare/.
 
 // Ports stopped in the middle of a frame.
 mod stopped;
+// Words lost to overrun.
+mod lost;
 
 use libc::STDOUT_FILENO;
 use registers::access::Answer;
@@ -77,9 +79,10 @@ fn set_up(edition2: bool, cr0: u32, cpsr: u32, words: &[u32], cr1: u32) -> Devic
     written(loaded(quiet, words), CR1, cr1)
 }
 
-// A cycle, with its lines printed.
+// A cycle, with its lines printed; what it may lose is not shown here.
 fn shown(d: Device, input: u8) -> Device {
-    let next = serial::cycle::cycle_of(d, frames::lines::pins_of(input));
+    let out = serial::cycle::cycle_of(d, frames::lines::pins_of(input));
+    let next = out.device;
     put_lines(next);
     next
 }
@@ -441,4 +444,5 @@ fn main() {
     slaves();
     microwire_slaves();
     stopped::all();
+    lost::all();
 }

@@ -5,7 +5,7 @@
 //   read OFFSET      with no frame in progress
 //   peek OFFSET      a read with a frame in progress
 //   load N           the words 1 to N are written to DR
-//   arrive N         the words 1 to N arrive
+//   arrive N         the words 1 to N arrive; answers with the last one if it is lost
 //   cycles N         so many cycles that end with no frame in progress
 //   frame            a cycle that ends with a frame in progress
 //   take             the oldest word to send is taken
@@ -16,6 +16,7 @@ use registers::access;
 use registers::access::Answer;
 use registers::settings;
 use registers::transfer;
+use registers::transfer::Lost;
 
 const CR0: u32 = 0x00;
 
@@ -109,12 +110,24 @@ fn load(r: Registers, n: u32) -> Registers {
     next
 }
 
-fn arrive(r: Registers, n: u16) -> Registers {
-    let mut next = r;
+// The word, if it is lost.
+fn receive(r: Registers, w: u16) -> Outcome {
+    let out = transfer::receive_word(r, w);
+    let lost = out.lost;
+    let registers = out.registers;
+    match lost {
+        Lost::Word(x) => word(x as u32, registers),
+        Lost::Nothing => done(registers),
+    }
+}
+
+fn arrive(r: Registers, n: u16) -> Outcome {
+    let mut next = done(r);
     let mut i: u16 = 0;
     while i < n {
         i = i + 1;
-        next = transfer::receive_word(next, i);
+        let before = next.registers;
+        next = receive(before, i);
     }
     next
 }
@@ -138,7 +151,7 @@ pub(crate) fn run(r: Registers, letter: u8, first: u32, last: u32) -> Outcome {
         b'r' => read(r, last, false),
         b'p' => read(r, last, true),
         b'l' => done(load(r, last)),
-        b'a' => done(arrive(r, (last % 0x10000) as u16)),
+        b'a' => arrive(r, (last % 0x10000) as u16),
         b'c' => done(cycles(r, last)),
         b'f' => done(transfer::end_cycle(r, true)),
         b't' => take(r),

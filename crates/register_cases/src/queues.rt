@@ -1,5 +1,6 @@
 // The queue by itself.
 use crate::report;
+use queue::Dropped;
 use queue::Oldest;
 use queue::Queue;
 
@@ -29,21 +30,21 @@ fn oldest(q: Queue) -> Queue {
 
 fn add(q: Queue, w: u16) -> Queue {
     let added = queue::add(q, w);
-    if added.kept {
-        report::text(b"queue add: kept\n");
-    } else {
-        report::text(b"queue add: lost\n");
+    let dropped = added.dropped;
+    match dropped {
+        Dropped::Word(w) => number(b"queue add, dropped: ", w as u32),
+        Dropped::Nothing => report::text(b"queue add, dropped: none\n"),
     }
     added.queue
 }
 
-// Seven words restored, two added, one taken.
+// Seven words restored, three added, one taken.
 pub(crate) fn run() {
     let seven = queue::restored([1, 2, 3, 4, 5, 6, 7, 0xFF], 7);
     counted(seven);
     place(seven, 7);
     let eight = add(seven, 8);
-    let full = add(eight, 9);
+    let full = add(add(eight, 9), 0);
     counted(full);
     place(full, 7);
     let rest = oldest(full);

@@ -2,6 +2,7 @@ mod BitLaws
 mod Decoder
 mod Products
 pub mod Picks
+mod Arrivals
 pub mod ResetValues
 pub mod Accesses
 pub mod Soundness

@@ -2,16 +2,20 @@
 use Prim.Native.Nat.{ℕ, _+_, _≤_}
 use mathlib.Core.Path.{_≡_}
 use mathlib.Core.Bool.{Bool, true, false, not, _&&_, _||_}
+use mathlib.Core.List.{List, [], _∷_}
 use lib.ListN.{length, getD}
 use lib.Dec.{ltb, leb, eqb}
-unfoldable pub use Rattle.queue.specs.Fifo.{added}
+unfoldable pub use Rattle.queue.specs.Fifo.{added, dropped}
 pub use Rattle.queue.specs.Fifo.{rest}
 use Rattle.registers.specs.Choose.{pick}
 use Rattle.registers.specs.Time.{cycles, slots, cyclesOf}
-use Rattle.registers.specs.Model.{Model, withTimeout, withRor, withTx, withRx}
+use Rattle.registers.specs.Model.{Model, modelOf, withTimeout, withRor, withTx, withRx}
 use Rattle.registers.specs.Settings.{enabledOf, divisorOf}
 use Rattle.registers.specs.declared.Timeout.{Timeout}
 use Rattle.registers.specs.declared.time.Cycles.{Cycles}
+use Rattle.registers.specs.declared.transfer.Lost.{Lost}
+use Rattle.registers.specs.declared.transfer.Lost.the-variants.{Word, Nothing}
+use Rattle.registers.specs.declared.transfer.Received.{Received}
 
 -- A word waits to be sent: SSE is 1 and the transmit queue is not empty.
 unfoldable pub waitingOf : Model → Bool
@@ -31,6 +35,20 @@ unfoldable pub receiveWord : Model → ℕ → Model
 receiveWord m w =
     withTimeout (withRor (withRx m (added (m .rx) w)) (m .ror || not (ltb (length (m .rx)) 8)))
     (record { rt = false; count = m .timeout .count })
+
+-- The words that are lost then: this one with eight held, none otherwise.
+unfoldable pub lostWord : Model → ℕ → List ℕ
+lostWord m w = dropped (m .rx) w
+
+-- The words of each case of the answer.
+abbrev pub lostWords : Lost → List ℕ
+lostWords (Word w) = w ∷ []
+lostWords Nothing = []
+
+-- The arrival of a completed word: the register file after it, and the word if it was lost.
+pub record ReceiveWord (m : Model) (w : ℕ) (r : Received) : Type 0 where
+  pub registers : modelOf (r .registers) ≡ receiveWord m w
+  pub lost : lostWords (r .lost) ≡ lostWord m w
 
 -- The cycle counts for the timeout: words held, SSE set, no frame in progress at its end.
 unfoldable pub idlesOf : Model → Bool → Bool

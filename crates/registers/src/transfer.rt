@@ -1,14 +1,27 @@
 // What the serial engine needs of the register file.
 ghost use mathlib.Core.Path.{_≡_};
 ghost use Rattle.registers.specs.Model.{modelOf};
-ghost use Rattle.registers.specs.Transfer.{waitingOf, nextWord, takeWord, receiveWord, idlesOf, LimitOf, timeoutOf, endCycle};
+ghost use Rattle.registers.specs.Transfer.{waitingOf, nextWord, takeWord, ReceiveWord, idlesOf, LimitOf, timeoutOf, endCycle};
 use crate::Registers;
 use crate::Timeout;
 use crate::time::Cycles;
 use crate::time::Slots;
+use queue::Dropped;
 
 // RT comes after 32 bit times.
 const TIMEOUT: Slots = Slots(64);
+
+// The word that was lost on its arrival, or that there is none.
+pub enum Lost {
+    Word(u16),
+    Nothing,
+}
+
+// What the arrival of a word gives: that word if it was lost, and the register file.
+pub struct Received {
+    pub lost: Lost,
+    pub registers: Registers,
+}
 
 // Whether a word waits to be sent.
 pub fn waiting_of(r: Registers) -> bool
@@ -37,18 +50,29 @@ pub fn take_word(r: Registers) -> Registers
     next
 }
 
-// A completed word: kept, or lost with the overrun flag set; either way RT is cleared, and its count stays.
-pub fn receive_word(r: Registers, word: u16) -> Registers
-    ensures { λ n. ⌜ modelOf n ≡ receiveWord (modelOf r) word ⌝ }
+// A completed word: kept, or handed back as lost with the overrun flag set; either way RT is cleared, and its count stays.
+pub fn receive_word(r: Registers, word: u16) -> Received
+    ensures { λ n. ⌜ ReceiveWord (modelOf r) word n ⌝ }
 {
     let added = queue::add(r.rx, word);
     let rx = added.queue;
-    let kept = added.kept;
+    let dropped = added.dropped;
     let mut next = r;
     next.timeout.rt = false;
     next.rx = rx;
-    next.ror = r.ror | !kept;
-    next
+    match dropped {
+        Dropped::Word(w) => {
+            next.ror = true;
+            Received {
+                lost: Lost::Word(w),
+                registers: next,
+            }
+        }
+        Dropped::Nothing => Received {
+            lost: Lost::Nothing,
+            registers: next,
+        },
+    }
 }
 
 fn idles_of(r: Registers, frame: bool) -> bool

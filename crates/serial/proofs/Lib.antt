@@ -1,8 +1,9 @@
-mod PairRuns
-pub mod Swap
 pub mod Accesses
 pub mod Status
 pub mod Cycles
+pub mod Losses
+pub mod PairRuns
+pub mod Swap
 pub mod Soundness
 pub mod Unreceived
 pub mod Inputs

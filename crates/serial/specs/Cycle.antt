@@ -1,18 +1,24 @@
 -- A device, and one cycle of it.
 use Prim.Native.Nat.{ℕ}
+use mathlib.Core.Path.{_≡_}
 use mathlib.Core.Bool.{Bool, true, false}
-use mathlib.Core.List.{List, [], _∷_, map}
+use mathlib.Core.List.{List, [], _∷_, _++_, map}
+use lib.Dec.{ltb}
+use lib.ListN.{length}
 use Rattle.registers.specs.Choose.{pick}
 use Rattle.registers.specs.Model.{Model, modelOf, resetRegisters}
 use Rattle.registers.specs.Settings.{settingsOf}
-use Rattle.registers.specs.Transfer.{waitingOf, nextWord, takeWord, receiveWord, endCycle}
+use Rattle.registers.specs.Transfer.{waitingOf, nextWord, takeWord, receiveWord, lostWord, lostWords, endCycle}
 use Rattle.registers.specs.declared.settings.Settings.{Settings}
+use Rattle.registers.specs.declared.transfer.Lost.the-variants.{Nothing}
+use Rattle.registers.specs.declared.transfer.Received.{Received}
 use Rattle.frames.specs.Engine.{activeOf, cleared, whileActive, noWord}
 use Rattle.frames.specs.Lines.{linesOf}
 use Rattle.frames.specs.Master.{masterStep, masterEnd}
 use Rattle.serial.specs.Slave.{slaveStep, slaveEnd}
 use Rattle.serial.specs.declared.Device.{Device}
 use Rattle.serial.specs.declared.History.{History}
+use Rattle.serial.specs.declared.cycle.Cycled.{Cycled}
 use Rattle.frames.specs.declared.engine.Engine.{Engine}
 use Rattle.frames.specs.declared.engine.Step.{Step}
 use Rattle.frames.specs.declared.lines.Lines.{Lines}
@@ -80,6 +86,11 @@ takeIf m takes = pick takes (takeWord m) m
 unfoldable pub receiveIf : Model → Bool → ℕ → Model
 receiveIf m complete w = pick complete (receiveWord m w) m
 
+-- The register file after that, and the words lost by it.
+pub record ReceiveIf (m : Model) (complete : Bool) (w : ℕ) (r : Received) : Type 0 where
+  pub registers : modelOf (r .registers) ≡ receiveIf m complete w
+  pub lost : lostWords (r .lost) ≡ pick complete (lostWord m w) []
+
 -- The register file after a step.
 abbrev pub stepModel : Model → Step → Model
 stepModel m r = receiveIf (takeIf m (r .takes)) (r .complete) (r .word)
@@ -92,6 +103,14 @@ deviceStep d pins =
 -- The words completed in a cycle: none or one.
 unfoldable pub completedOf : DeviceModel → Pins → List ℕ
 completedOf d pins = pick (deviceStep d pins .complete) (deviceStep d pins .word ∷ []) []
+
+-- Of these, the words lost: all if eight are held when the cycle begins, else none. This is what the receive queue drops (`lost-step`).
+unfoldable pub lostOf : DeviceModel → Pins → List ℕ
+lostOf d pins = pick (ltb (length (d .registers .rx)) 8) [] (completedOf d pins)
+
+-- And the words kept: the others.
+unfoldable pub keptOf : DeviceModel → Pins → List ℕ
+keptOf d pins = pick (ltb (length (d .registers .rx)) 8) (completedOf d pins) []
 
 -- The pins of the last three cycles, this one included. They are followed with SSE clear too.
 abbrev pub follow : History → Pins → History
@@ -111,6 +130,15 @@ cycleOf d pins =
       lines = linesOf s (r .engine);
     }
 
+-- A cycle as the code hands it up: the device after it, and the words lost in it.
+pub record CycleOf (d : DeviceModel) (pins : Pins) (r : Cycled) : Type 0 where
+  pub device : deviceOf (r .device) ≡ cycleOf d pins
+  pub lost : lostWords (r .lost) ≡ lostOf d pins
+
+-- A device before the first cycle of a run: no word is lost yet.
+abbrev pub notRun : Device → Cycled
+notRun d = record { device = d; lost = Nothing }
+
 -- A run: one cycle for each entry of a list of pins, and the device after each of them.
 abbrev pub run : DeviceModel → List Pins → List DeviceModel
 run d [] = []
@@ -128,3 +156,20 @@ after d ps = lastOf d (run d ps)
 -- The lines of its cycles.
 abbrev pub recording : DeviceModel → List Pins → List Lines
 recording d ps = map (λ (x : DeviceModel). x .lines) (run d ps)
+
+-- The words of its cycles, in their order.
+abbrev pub wordsIn : (DeviceModel → Pins → List ℕ) → DeviceModel → List Pins → List ℕ
+wordsIn words d [] = []
+wordsIn words d (p ∷ ps) = words d p ++ wordsIn words (cycleOf d p) ps
+
+-- The words completed in a run.
+abbrev pub completedIn : DeviceModel → List Pins → List ℕ
+completedIn = wordsIn completedOf
+
+-- The words lost in a run.
+abbrev pub lostIn : DeviceModel → List Pins → List ℕ
+lostIn = wordsIn lostOf
+
+-- The words kept in a run.
+abbrev pub keptIn : DeviceModel → List Pins → List ℕ
+keptIn = wordsIn keptOf

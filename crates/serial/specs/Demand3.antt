@@ -1,11 +1,11 @@
--- Demand 3 as a statement: what is compared, from which starts, over which lists of steps. No proof stands here: `demand3` of proofs/Exchange/Claim.antt proves the first part, `enabling-injective` of proofs/Drawing/Enabled.antt the last sentence, `enabling-recorded` there what a load's recording is; the record's crate carries both to records and output bytes.
-use Prim.Native.Nat.{ℕ, zero, suc, _+_, _*_, _≤_, _<_}
+-- Demand 3 as a statement: what is compared, from which starts, over which lists of steps. No proof stands here: `demand3` of proofs/Exchange/Claim.antt proves the first part, `enabling-injective` of proofs/Drawing/Enabled.antt the last sentence, `enabling-recorded` there what a load's recording is, `lost-of-due` of proofs/PairRuns.antt which words are lost; the record's crate carries both to records and output bytes.
+use Prim.Native.Nat.{ℕ, zero, suc, _+_, _-_, _*_, _≤_, _<_}
 use mathlib.Core.Path.{_≡_}
 use mathlib.Core.Bool.{Bool, true, false}
 use mathlib.Core.Logic.{_⊎_}
 use mathlib.Core.List.{List, [], _∷_, _++_, map}
 use lib.Dec.{ltb}
-use lib.ListN.{length, take, replicate}
+use lib.ListN.{length, take, drop, replicate}
 use Rattle.registers.specs.Time.{cycles, slots, cyclesOf}
 use Rattle.registers.specs.Settings.{settingsOf, settingsBy, enabledOf, permittedOf}
 use Rattle.registers.specs.declared.time.Cycles.{Cycles}
@@ -23,7 +23,7 @@ use Rattle.frames.specs.Bits.{cut}
 use Rattle.frames.specs.Lines.{byteOf}
 use Rattle.frames.specs.Slots.{widthOf, captureWidth}
 use Rattle.frames.specs.declared.lines.Pins.{Pins}
-use Rattle.serial.specs.Pair.{wire, PairModel, pairCycle, pairRun}
+use Rattle.serial.specs.Pair.{wire, PairModel, pairCycle, pairRun, swapped, pairLost}
 
 -- Steps ----------------------------------------------------------------------------------------------------------------
 
@@ -163,6 +163,15 @@ pub record Received (s : Settings) (n : ℕ) (d : Which) (g : PairModel) : Type 
   pub words : received d n g ≡ due s d g
   pub queue : held d (pairRun n g) ≡ take 8 (held d g ++ due s d g)
   pub overrun : side d (pairRun n g) .registers .ror ≡ ltb 8 (length (held d g ++ due s d g))
+
+-- The words that a device loses in n pair cycles.
+abbrev pub lost : Which → ℕ → PairModel → List ℕ
+lost master n p = pairLost n p
+lost slave n p = pairLost n (swapped p)
+
+-- Where a device has received what is due, the words lost are those due that found no place, in their order.
+abbrev pub LostOfDue : Type 0
+LostOfDue = (s : Settings) (n : ℕ) (d : Which) (g : PairModel) → Received s n d g → lost d n g ≡ drop (8 - length (held d g)) (due s d g)
 
 -- Of the state g at the master's enabling: the first BSY 0, at most the slot total times h cycles later, and what both have received from then on.
 pub record Exchanged (g : PairModel) : Type 0 where

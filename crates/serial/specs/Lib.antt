@@ -1,5 +1,6 @@
 pub mod Slave
 pub mod Cycle
+pub mod Lost
 pub mod Access
 pub mod Busy
 pub mod Sound

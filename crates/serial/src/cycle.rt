@@ -1,7 +1,7 @@
 // One cycle of a device.
 ghost use mathlib.Core.Path.{_≡_};
 ghost use Rattle.registers.specs.Model.{modelOf};
-ghost use Rattle.serial.specs.Cycle.{deviceOf, stepOf, tickOf, endOf, takeIf, receiveIf, cycleOf};
+ghost use Rattle.serial.specs.Cycle.{deviceOf, stepOf, tickOf, endOf, takeIf, ReceiveIf, CycleOf, notRun};
 use crate::Device;
 use crate::History;
 use frames::engine::Engine;
@@ -9,6 +9,14 @@ use frames::engine::Step;
 use frames::lines::Pins;
 use registers::Registers;
 use registers::settings::Settings;
+use registers::transfer::Lost;
+use registers::transfer::Received;
+
+// What a cycle gives: the device, and the word lost in it, or none.
+pub struct Cycled {
+    pub device: Device,
+    pub lost: Lost,
+}
 
 fn step_of(s: Settings, e: Engine, h: History, pins: Pins, waiting: bool, next: u16) -> Step
     ensures { λ r. ⌜ r ≡ stepOf s e h pins waiting next ⌝ }
@@ -56,19 +64,22 @@ fn take_if(r: Registers, takes: bool) -> Registers
     }
 }
 
-fn receive_if(r: Registers, complete: bool, word: u16) -> Registers
-    ensures { λ n. ⌜ modelOf n ≡ receiveIf (modelOf r) complete word ⌝ }
+fn receive_if(r: Registers, complete: bool, word: u16) -> Received
+    ensures { λ n. ⌜ ReceiveIf (modelOf r) complete word n ⌝ }
 {
     if complete {
         registers::transfer::receive_word(r, word)
     } else {
-        r
+        Received {
+            lost: Lost::Nothing,
+            registers: r,
+        }
     }
 }
 
 // One cycle: the engine's step, the queues, the timeout, the pins, the lines.
-pub fn cycle_of(d: Device, pins: Pins) -> Device
-    ensures { λ n. ⌜ deviceOf n ≡ cycleOf (deviceOf d) pins ⌝ }
+pub fn cycle_of(d: Device, pins: Pins) -> Cycled
+    ensures { λ n. ⌜ CycleOf (deviceOf d) pins n ⌝ }
 {
     let r = d.registers;
     let e = d.engine;
@@ -81,11 +92,13 @@ pub fn cycle_of(d: Device, pins: Pins) -> Device
     let lines = frames::lines::lines_of(s, shown);
     let after = end_of(s, shown);
     let without = take_if(r, step.takes);
-    let with = receive_if(without, step.complete, step.word);
+    let received = receive_if(without, step.complete, step.word);
+    let lost = received.lost;
+    let with = received.registers;
     let ended = registers::transfer::end_cycle(with, after.frame);
     let newest = h.newest;
     let middle = h.middle;
-    Device {
+    let device = Device {
         registers: ended,
         engine: after,
         pins: History {
@@ -94,5 +107,16 @@ pub fn cycle_of(d: Device, pins: Pins) -> Device
             oldest: middle,
         },
         lines,
+    };
+    Cycled { device, lost }
+}
+
+// A device before the first cycle of a run, for a loop that keeps a `Cycled` from turn to turn: so no device is copied.
+pub fn not_run(d: Device) -> Cycled
+    ensures { λ r. ⌜ r ≡ notRun d ⌝ }
+{
+    Cycled {
+        device: d,
+        lost: Lost::Nothing,
     }
 }

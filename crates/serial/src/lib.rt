@@ -7,6 +7,8 @@ ghost use Rattle.serial.specs.Cycle.{deviceOf, resetDevice};
 pub mod slave;
 // One cycle of a device.
 pub mod cycle;
+// The words lost to overrun.
+pub mod lost;
 // A read, a write.
 pub mod access;
 // Which devices are sound.

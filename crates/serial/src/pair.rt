@@ -1,14 +1,21 @@
 // Two devices wired together.
 ghost use mathlib.Core.Path.{_≡_};
-ghost use Rattle.serial.specs.Cycle.{deviceOf};
-ghost use Rattle.serial.specs.Pair.{wire, pairOf, pairCycle, pairRun};
+ghost use Rattle.serial.specs.Pair.{wire, pairOf, PairRun};
 use crate::Device;
+use crate::lost::Losses;
 use frames::lines::Lines;
 use frames::lines::Pins;
 
 pub struct Wired {
     pub first: Device,
     pub second: Device,
+}
+
+// What a pair run gives: what each device lost in it, and the pair.
+pub struct PairRan {
+    pub first: Losses,
+    pub second: Losses,
+    pub pair: Wired,
 }
 
 // What the partner's pins read; a released line reads LOW.
@@ -22,28 +29,35 @@ pub fn wire(l: Lines) -> Pins
     }
 }
 
-// Each input is the other's output in the cycle before.
-pub fn pair_cycle(p: Wired) -> Wired
-    ensures { λ r. ⌜ pairOf r ≡ pairCycle (pairOf p) ⌝ }
+// So many cycles of the pair: each input is the other's output in the cycle before.
+pub fn pair_run(p: Wired, cycles: u64) -> PairRan
+    ensures { λ r. ⌜ PairRun cycles (pairOf p) r ⌝ }
 {
-    let one = p.first;
-    let two = p.second;
-    let to_two = wire(one.lines);
-    let to_one = wire(two.lines);
-    let first = crate::cycle::cycle_of(one, to_one);
-    let second = crate::cycle::cycle_of(two, to_two);
-    Wired { first, second }
-}
-
-// So many cycles of the pair.
-pub fn pair_run(p: Wired, cycles: u64) -> Wired
-    ensures { λ r. ⌜ pairOf r ≡ pairRun cycles (pairOf p) ⌝ }
-{
-    let mut d = p;
+    let mut first = crate::cycle::not_run(p.first);
+    let mut second = crate::cycle::not_run(p.second);
+    let mut first_lost = crate::lost::none_lost();
+    let mut second_lost = crate::lost::none_lost();
     let mut i: u64 = 0;
     while i < cycles {
-        d = pair_cycle(d);
+        let to_second = wire(first.device.lines);
+        let to_first = wire(second.device.lines);
+        first = crate::cycle::cycle_of(first.device, to_first);
+        second = crate::cycle::cycle_of(second.device, to_second);
+        let one = first.lost;
+        let two = second.lost;
+        first_lost = crate::lost::noted(first_lost, one);
+        second_lost = crate::lost::noted(second_lost, two);
         i = i + 1;
     }
-    d
+    let first_device = first.device;
+    let second_device = second.device;
+    let pair = Wired {
+        first: first_device,
+        second: second_device,
+    };
+    PairRan {
+        first: first_lost,
+        second: second_lost,
+        pair,
+    }
 }

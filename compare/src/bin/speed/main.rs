@@ -4,10 +4,12 @@
 mod table;
 mod texts;
 
+use compare::calls::run_device;
 use compare::device::offset::{CPSR, CR0, CR1, DR, IMSC, SR};
 use compare::device::{refusal, Device};
 use compare::library::Library;
 use compare::model::{Model, Second};
+use compare::ran::Ran;
 use compare::random::Random;
 use compare::record::{encode, LENGTH};
 use std::hint::black_box;
@@ -34,7 +36,7 @@ const SSE: u32 = 2;
 trait Port {
     fn read(&mut self, offset: u32) -> (u32, u32);
     fn write(&mut self, offset: u32, value: u32) -> u32;
-    fn run(&mut self, input: &[u8], output: &mut [u8]) -> u32;
+    fn run(&mut self, input: &[u8], output: &mut [u8]) -> Ran;
     fn record(&self) -> [u8; LENGTH];
 }
 
@@ -61,7 +63,7 @@ impl<M: Model> Port for OnRecord<M> {
         self.model.write(&mut self.record, offset, value)
     }
 
-    fn run(&mut self, input: &[u8], output: &mut [u8]) -> u32 {
+    fn run(&mut self, input: &[u8], output: &mut [u8]) -> Ran {
         self.model.run(&mut self.record, input, output)
     }
 
@@ -82,11 +84,8 @@ impl Port for OwnState {
         self.0.write(offset, value).err().unwrap_or(0)
     }
 
-    fn run(&mut self, input: &[u8], output: &mut [u8]) -> u32 {
-        for (pins, lines) in input.iter().zip(output) {
-            *lines = self.0.cycle(*pins);
-        }
-        0
+    fn run(&mut self, input: &[u8], output: &mut [u8]) -> Ran {
+        run_device(&mut self.0, input, output, |_| true)
     }
 
     fn record(&self) -> [u8; LENGTH] {
@@ -190,9 +189,12 @@ impl Runner {
         for _ in 0..rounds {
             let start = Instant::now();
             self.exchange_words();
-            let refusal = self.port.run(input, &mut self.output);
+            let ran = self.port.run(input, &mut self.output);
             time += start.elapsed();
-            self.refused += u64::from(refusal != 0);
+            self.refused += u64::from(ran.refusal != 0);
+            for number in [ran.count, ran.lost.count, ran.lost.last] {
+                self.sum.add(number);
+            }
             self.sum.add_bytes(&self.output);
         }
         self.laps.push(time);

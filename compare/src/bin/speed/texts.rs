@@ -37,7 +37,7 @@ fn sample() -> Sample {
         if master.master_takes_word() {
             places.push(place);
         }
-        cycles.push(master.cycle(0));
+        cycles.push(master.cycle(0).lines);
     }
     let mut text = vec![0; MOST_CYCLES + places.len()];
     assert_eq!(Second.write_text(&cycles, &places, &mut text).0, 0);

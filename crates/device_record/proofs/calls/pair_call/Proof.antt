@@ -31,7 +31,13 @@ same-length-2 c = search needs
 
 returns : tie.Need-returns
 unfolding pairOf
-returns c = pair-done _ _ _ (c .before .before .before .before .before .before .before .before .before .before .before .before .before .before .pair-refusal .ensures) (c .before .before .before .before .before .before .before .before .before .before .before .before .before .before .before .before .before .before .before .args .cycles) _ _ _ _ (c .before .before .before .before .before .before .before .before .before .before .before .before .before .if1 .taken) (c .before .before .before .before .before .before .before .before .pair-run .ensures) (ap₂ (λ x y. record { first = x; second = y }) (c .before .before .before .before .before .before .before .before .before .before .before .decode .ensures) (c .before .before .before .before .before .before .before .before .before .decode2 .ensures)) (c .before .before .before .before .before .before .encode .ensures) (c .before .before .encode2 .ensures)
+returns c = pair-done _ _ _ (c .before .before .before .before .before .before .before .before .before .before .before .before .before .before .before .before .before .pair-refusal .ensures) (c .before .before .before .before .before .before .before .before .before .before .before .before .before .before .before .before .before .before .before .before .before .before .args .cycles) _ _ _ _ (c .before .before .before .before .before .before .before .before .before .before .before .before .before .before .before .before .if1 .taken) (c .before .before .before .before .before .before .before .before .before .before .before .pair-run .ensures) (ap₂ (λ x y. record { first = x; second = y }) (c .before .before .before .before .before .before .before .before .before .before .before .before .before .before .decode .ensures) (c .before .before .before .before .before .before .before .before .before .before .before .before .decode2 .ensures)) (c .before .before .before .before .before .before .before .before .encode .ensures) (c .before .before .before .before .encode2 .ensures)
+
+none-lost-requires : tie.Need-none-lost-requires
+none-lost-requires c κs = search needs
+
+none-lost-requires-2 : tie.Need-none-lost-requires-2
+none-lost-requires-2 c κs = search needs
 
 same-length-3 : tie.Need-same-length-3
 same-length-3 c = search needs
@@ -40,7 +46,7 @@ same-length-4 : tie.Need-same-length-4
 same-length-4 c = search needs
 
 returns-2 : tie.Need-returns-2
-returns-2 c = pair-refused _ _ _ (c .before .pair-refusal .ensures) _ (c .if1 .left)
+returns-2 c = pair-refused _ _ _ (c .before .before .before .pair-refusal .ensures) _ _ _ (c .before .none-lost .ensures) (c .none-lost2 .ensures) (c .before .before .if1 .left)
 
 pub pair-call-spec : {M : Type 1} → statement M
 pair-call-spec =
@@ -55,6 +61,8 @@ pair-call-spec =
     same-length
     same-length-2
     returns
+    none-lost-requires
+    none-lost-requires-2
     same-length-3
     same-length-4
     returns-2)

@@ -22,7 +22,10 @@ same-length-2 : tie.Need-same-length-2
 same-length-2 c = search needs
 
 returns : tie.Need-returns
-returns c = run-done _ _ _ _ _ (c .before .before .before .before .before .before .before .before .before .before .before .run-refusal .ensures) _ _ (c .before .before .before .before .before .before .before .before .decode .ensures) _ _ (c .before .before .before .before .before .before .before .before .before .before .if1 .taken) (c .before .before .encode .ensures) (c .before .before .before .before .before .before .run-until .ensures)
+returns c = run-done _ _ _ _ _ (c .before .before .before .before .before .before .before .before .before .before .before .before .run-refusal .ensures) _ _ (c .before .before .before .before .before .before .before .before .before .decode .ensures) _ _ (c .before .before .before .before .before .before .before .before .before .before .before .if1 .taken) (c .before .before .before .encode .ensures) (c .before .before .before .before .before .before .before .run-until .ensures)
+
+none-lost-requires : tie.Need-none-lost-requires
+none-lost-requires c κs = search needs
 
 same-length-3 : tie.Need-same-length-3
 same-length-3 c = search needs
@@ -31,7 +34,7 @@ same-length-4 : tie.Need-same-length-4
 same-length-4 c = search needs
 
 returns-2 : tie.Need-returns-2
-returns-2 c = run-unserved _ _ _ _ _ (c .before .run-refusal .ensures) (c .if1 .left)
+returns-2 c = run-unserved _ _ _ _ _ (c .before .before .run-refusal .ensures) _ (c .none-lost .ensures) (c .before .if1 .left)
 
 pub run-call-spec : {M : Type 1} → statement M
 run-call-spec =
@@ -44,6 +47,7 @@ run-call-spec =
     same-length
     same-length-2
     returns
+    none-lost-requires
     same-length-3
     same-length-4
     returns-2)

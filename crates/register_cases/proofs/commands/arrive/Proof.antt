@@ -10,14 +10,17 @@ Inv-loop n next₀ i₀ next i = Unit {0}
 abbrev μ-loop : tie.MeasureT-loop
 μ-loop n next₀ i₀ next i = n - i
 
+done-requires : tie.Need-done-requires Inv-loop μ-loop
+done-requires c κs = search needs
+
 loop-holds : tie.Need-loop-holds Inv-loop μ-loop
 loop-holds c = search needs
 
 add-i : tie.Need-add-i Inv-loop μ-loop
 add-i c = search needs
 
-receive-word-requires : tie.Need-receive-word-requires Inv-loop μ-loop
-receive-word-requires c κs = search needs
+receive-requires : tie.Need-receive-requires Inv-loop μ-loop
+receive-requires c κs = search needs
 
 loop-less : tie.Need-loop-less Inv-loop μ-loop
 loop-less c = search needs
@@ -31,4 +34,13 @@ returns c = search needs
 pub arrive-spec : {M : Type 1} → statement M
 arrive-spec =
     tie.close
-    (tie.spec Inv-loop μ-loop loop-holds add-i receive-word-requires loop-less loop-again returns)
+    (tie.spec
+    Inv-loop
+    μ-loop
+    done-requires
+    loop-holds
+    add-i
+    receive-requires
+    loop-less
+    loop-again
+    returns)

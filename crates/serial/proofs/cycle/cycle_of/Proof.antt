@@ -1,4 +1,6 @@
+use mathlib.Core.Path.{_∙_}
 use Rattle.serial.specs.Cycle.{cycleOf, deviceOf, deviceStep}
+use Rattle.serial.proofs.Losses.{lost-step}
 use borrow.Author.Needs.{needs}
 use Rattle.serial.proofs.cycle.cycle_of.Statement.{statement}
 use Rattle.serial.proofs.cycle.cycle_of.Tie as tie
@@ -32,7 +34,11 @@ end-cycle-requires c κs = search needs
 
 returns : tie.Need-returns
 unfolding deviceOf cycleOf deviceStep
-returns c = rw (c .before .before .end-cycle .ensures, c .before .before .before .receive-if .ensures, c .before .before .before .before .take-if .ensures, c .before .before .before .before .before .end-of .ensures, c .before .before .before .before .before .before .lines-of .ensures, c .before .before .before .before .before .before .before .before .step-of .ensures, c .before .before .before .before .before .before .before .before .before .next-word .ensures, c .before .before .before .before .before .before .before .before .before .before .waiting-of .ensures, c .before .before .before .before .before .before .before .before .before .before .before .settings-of .ensures)
+returns c =
+    record {
+      device = rw (c .before .before .end-cycle .ensures, c .before .before .before .before .receive-if .ensures .registers, c .before .before .before .before .before .take-if .ensures, c .before .before .before .before .before .before .end-of .ensures, c .before .before .before .before .before .before .before .lines-of .ensures, c .before .before .before .before .before .before .before .before .before .step-of .ensures, c .before .before .before .before .before .before .before .before .before .before .next-word .ensures, c .before .before .before .before .before .before .before .before .before .before .before .waiting-of .ensures, c .before .before .before .before .before .before .before .before .before .before .before .before .settings-of .ensures);
+      lost = c .before .before .before .before .receive-if .ensures .lost ∙ rw (c .before .before .before .before .before .take-if .ensures, c .before .before .before .before .before .before .before .before .before .step-of .ensures, c .before .before .before .before .before .before .before .before .before .before .next-word .ensures, c .before .before .before .before .before .before .before .before .before .before .before .waiting-of .ensures, c .before .before .before .before .before .before .before .before .before .before .before .before .settings-of .ensures) (lost-step _ _);
+    }
 
 pub cycle-of-spec : {M : Type 1} → statement M
 cycle-of-spec =
