@@ -1,8 +1,8 @@
 #!/bin/sh
 # Tests the second program, then compares the proved library with it call by call.
-# Ends with four lines of counts, of lost words, of frames with SSE clear, of texts and of
-# devices; any difference gives a status other than 0, and so do too few calls on devices,
-# random texts or lost words.
+# Ends with five lines of counts, of recordings judged, of lost words, of frames with SSE
+# clear, of texts and of devices; any difference gives a status other than 0, and so do too few
+# calls on devices, random texts, lost words or random recordings.
 # usage: run.sh
 #
 #   PL022_ARCHIVE     the library, a file libpl022.a that must be there;
@@ -21,6 +21,8 @@ CALLS_AT_LEAST=2000000
 TEXTS_AT_LEAST=1000000
 # More than three times what the cases lose that leave nothing to chance.
 LOST_AT_LEAST=200000
+# All that the rounds make.
+JUDGED_AT_LEAST=100000
 
 if [ $# -ne 0 ]; then
     echo "usage: run.sh" >&2
@@ -35,8 +37,11 @@ cargo build --quiet --offline --locked --release --manifest-path "$here/Cargo.to
 compare=$CARGO_TARGET_DIR/release/compare
 
 # The second program on the vectors, then the library beside it.
-vectors=../shared/vectors-5
-if [ -d "$vectors" ]; then
+for vectors in ../shared/vectors-5 ../shared/vectors-7; do
+    if [ ! -d "$vectors" ]; then
+        echo "run: no folder $vectors, its vectors are skipped"
+        continue
+    fi
     "$here/vectors.sh" "$vectors"
     for script in "$vectors"/*.in; do
         "$compare" --replay < "$script" > "$CARGO_TARGET_DIR/replay" || {
@@ -45,16 +50,14 @@ if [ -d "$vectors" ]; then
             exit 1
         }
     done
-else
-    echo "run: no folder $vectors, its vectors are skipped"
-fi
+done
 
 # The outer limit is for a call that does not return.
 status=0
 timeout $((SECONDS_AT_MOST + 60)) "$compare" \
     --seed "$SEED" --rounds "$ROUNDS" --seconds "$SECONDS_AT_MOST" \
     --least "$CALLS_AT_LEAST" --least-texts "$TEXTS_AT_LEAST" \
-    --least-lost "$LOST_AT_LEAST" || status=$?
+    --least-lost "$LOST_AT_LEAST" --least-judged "$JUDGED_AT_LEAST" || status=$?
 if [ "$status" -eq 124 ]; then
     echo "run: the comparison did not end; compare --trace FILE shows the call" >&2
 fi

@@ -1,6 +1,7 @@
 #!/bin/sh
 # Measures the proved library and the second program at the same work, and a plain
-# fill of the same output, or a copy of the same text, beside them. About a minute.
+# fill of the same output, a copy of the same text, or a comparison of the same recording,
+# beside them. About a minute.
 # usage: speed.sh [CYCLES]
 # PL022_ARCHIVE and CARGO_TARGET_DIR as in run.sh.
 set -eu

@@ -34,7 +34,7 @@ static uint8_t *map(size_t length, int protection, int flags)
 void arena_open(void)
 {
     size_t page = (size_t)sysconf(_SC_PAGESIZE);
-    size_t inner = (LENT_LIMIT + 2 * CANARY + page - 1) / page * page;
+    size_t inner = (BYTES_LIMIT + 2 * CANARY + page - 1) / page * page;
 
     for (unsigned role = 0; role < ROLES; role++) {
         uint8_t *outer = map(inner + 2 * page, PROT_NONE, 0);
@@ -81,16 +81,20 @@ static uint8_t *heap(size_t length)
     return bytes;
 }
 
+/* Numbers stand where numbers may stand. */
+static uint32_t alignment(enum role role)
+{
+    return role == ROLE_PLACES ? PLACE_SIZE : role == ROLE_WORDS ? WORD_SIZE : 1;
+}
+
 static uint8_t *place(const struct loan *loan, uint8_t *stack)
 {
     switch (loan->placement) {
     case PLACE_GUARD_BEFORE:
         return regions[loan->role].start;
     case PLACE_BETWEEN_CANARIES:
-        /* Numbers stand where numbers may stand. */
         return regions[loan->role].start
-             + (loan->role == ROLE_PLACES ? PLACE_SIZE * draw_between(1, CANARY / PLACE_SIZE)
-                                          : draw_between(1, CANARY));
+             + alignment(loan->role) * draw_between(1, CANARY / alignment(loan->role));
     case PLACE_HEAP:
         return heap(loan->length);
     case PLACE_STACK:

@@ -17,6 +17,6 @@ cc -std=c11 -D_POSIX_C_SOURCE=200809L -D_DEFAULT_SOURCE \
     -g -O1 -fsanitize=address,undefined -fno-sanitize-recover=all -Iinclude \
     -o "$program" \
     fuzz/fuzz.c fuzz/arena.c fuzz/calls.c fuzz/draw.c fuzz/lost.c fuzz/promise.c \
-    fuzz/promise_text.c fuzz/record.c fuzz/relate.c fuzz/report.c fuzz/session.c \
-    fuzz/session_text.c fuzz/tally.c \
+    fuzz/promise_recording.c fuzz/promise_text.c fuzz/record.c fuzz/recording.c fuzz/relate.c \
+    fuzz/report.c fuzz/session.c fuzz/session_recording.c fuzz/session_text.c fuzz/tally.c \
     "$@" "$archive"

@@ -8,6 +8,7 @@
 #define ROLE(role) (1U << (role))
 #define LINES (ROLE(ROLE_INPUT) | ROLE(ROLE_OUTPUT))
 #define TEXTS (ROLE(ROLE_LINES) | ROLE(ROLE_PLACES) | ROLE(ROLE_TEXT))
+#define RECORDINGS (ROLE(ROLE_RECORDING) | ROLE(ROLE_RECORDING_2))
 #define NUMBERS(low, high) ((1U << ((high) + 1)) - (1U << (low)))
 #define NUMBER(n) NUMBERS(n, n)
 
@@ -38,6 +39,10 @@ static const struct {
     [CALL_READ_TEXT] = {"read_text", TEXTS, ROLE(ROLE_LINES) | ROLE(ROLE_PLACES),
                         NUMBER(PL022_DONE) | NUMBER(PL022_TOO_MANY_CYCLES)
                             | NUMBERS(PL022_TOO_SHORT, PL022_NO_LINE_FEED)},
+    [CALL_JUDGE] = {"judge", ROLE(ROLE_RECORDING) | ROLE(ROLE_WORDS), ROLE(ROLE_WORDS),
+                    NUMBER(PL022_DONE) | NUMBER(PL022_NOT_PERMITTED)
+                        | NUMBERS(PL022_NO_MATCH, PL022_TOO_LONG)},
+    [CALL_DIFFERENCE] = {"difference", RECORDINGS, 0, NUMBER(PL022_DONE)},
 };
 
 const char *call_name(enum call call)
@@ -48,7 +53,8 @@ const char *call_name(enum call call)
 const char *role_name(enum role role)
 {
     static const char *const names[ROLES] = {
-        "record", "second", "input", "output", "lines", "places", "text"
+        "record", "second", "input", "output", "lines", "places", "text", "recording",
+        "recording 2", "words"
     };
     return names[role];
 }
@@ -102,6 +108,25 @@ static void pass_text(const struct request *request, const struct loan loans[ROL
         outcome->refusal = read.refusal;
         outcome->result = read.cycles;
         outcome->starts = read.starts;
+    }
+}
+
+static void pass_recording(const struct request *request, const struct loan loans[ROLES],
+                           struct outcome *outcome)
+{
+    const struct loan *recording = &loans[ROLE_RECORDING];
+    const struct loan *other = &loans[ROLE_RECORDING_2];
+    uint16_t *words = (uint16_t *)(void *)loans[ROLE_WORDS].bytes;
+
+    if (request->call == CALL_JUDGE) {
+        struct pl022_count judged = pl022_judge(request->cr0, request->cpsr, recording->bytes,
+                                                recording->length, words);
+        outcome->refusal = judged.refusal;
+        outcome->result = judged.count;
+    } else {
+        outcome->refusal = PL022_DONE;
+        outcome->part = pl022_difference(recording->bytes, recording->length,
+                                         other->bytes, other->length);
     }
 }
 
@@ -160,10 +185,13 @@ static void pass(const struct request *request, const struct loan loans[ROLES],
     outcome->result = 0;
     outcome->starts = 0;
     memset(outcome->lost, 0, sizeof outcome->lost);
+    memset(&outcome->part, 0, sizeof outcome->part);
     if (call_runs(request->call)) {
         pass_run(request, loans, outcome);
     } else if (call_lends(request->call, ROLE_TEXT)) {
         pass_text(request, loans, outcome);
+    } else if (call_lends(request->call, ROLE_RECORDING)) {
+        pass_recording(request, loans, outcome);
     } else {
         pass_access(request, loans, outcome);
     }
@@ -202,6 +230,9 @@ size_t call_wrote(const struct request *request, const struct outcome *outcome, 
     if (request->call == CALL_RUN) {
         return request->lent[ROLE_INPUT].length;
     }
+    if (request->call == CALL_JUDGE) {
+        return WORDS_LENGTH;
+    }
     return role == ROLE_PLACES ? (size_t)outcome->starts * PLACE_SIZE : (size_t)outcome->result;
 }
 
@@ -221,6 +252,13 @@ uint32_t place_get(const struct bytes *places, size_t n)
 void place_set(struct bytes *places, size_t n, uint32_t place)
 {
     memcpy(places->data + n * PLACE_SIZE, &place, PLACE_SIZE);
+}
+
+uint16_t word_get(const struct bytes *words, size_t n)
+{
+    uint16_t word;
+    memcpy(&word, words->data + n * WORD_SIZE, WORD_SIZE);
+    return word;
 }
 
 void bytes_set(struct bytes *bytes, const uint8_t *data, size_t length)
@@ -243,6 +281,8 @@ void request_copy(struct request *to, const struct request *from)
     to->offset = from->offset;
     to->value = from->value;
     to->cycles = from->cycles;
+    to->cr0 = from->cr0;
+    to->cpsr = from->cpsr;
     to->due = from->due;
     to->served_before = from->served_before;
     for (unsigned role = 0; role < ROLES; role++) {

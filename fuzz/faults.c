@@ -21,6 +21,8 @@ struct pl022_count __real_pl022_write_text(const uint8_t *, size_t, const uint32
                                            uint8_t *, size_t);
 struct pl022_text __real_pl022_read_text(const uint8_t *, size_t, uint8_t *, size_t,
                                          uint32_t *, size_t);
+struct pl022_count __real_pl022_judge(uint32_t, uint32_t, const uint8_t *, size_t, uint16_t *);
+struct pl022_part __real_pl022_difference(const uint8_t *, size_t, const uint8_t *, size_t);
 
 /* faults.sh says them in words, in this order. */
 enum {
@@ -50,6 +52,15 @@ enum {
     LINES_WRITES_PAST_COUNT, LINES_STARTS_WITH_REFUSAL, LINES_STARTS_LESS, LINES_OTHER_START,
     LINES_TAKES_LOWER_CASE, LINES_TAKES_CR_LF, LINES_TAKES_NO_LINE_FEED, LINES_BUFFERS_FIRST,
     LINES_LOOKS_AT_ALL, LINES_LOOKS_BEHIND, LINES_CHANGES_ON_REFUSAL, LINES_CUTS_LENGTH,
+    JUDGE_SWAPS_6_22, JUDGE_CUTS_CR0, JUDGE_CUTS_CPSR, JUDGE_TAKES_CPSR_1, JUDGE_REFUSES_ODD_CPSR,
+    JUDGE_LIMIT_LESS, JUDGE_LIMIT_MORE, JUDGE_CUTS_LENGTH, JUDGE_COUNT_WITH_6,
+    JUDGE_LOOKS_BEHIND, JUDGE_LOOKS_BEFORE, JUDGE_CHANGES_RECORDING, JUDGE_HIDDEN_STATE,
+    JUDGE_CHANGES_ON_REFUSAL, JUDGE_NINTH_PLACE, JUDGE_LEAVES_REST, JUDGE_NOT_CUT,
+    JUDGE_OTHER_WORD, JUDGE_SWAPS_WORDS, JUDGE_COUNT_LESS, JUDGE_REFUSES_EIGHT,
+    JUDGE_TAKES_BEGINNING, JUDGE_TAKES_REST, JUDGE_MASKS_CYCLE, JUDGE_IGNORES_NSSPOE,
+    LEADING_LESS, LEADING_MORE, LEADING_LENGTH, LEADING_SLOTS, LEADING_NONE_OF_EIGHT,
+    PART_SECOND_OF_EQUAL, PART_OF_SHORTER, PART_LATE, PART_NO_REST, PART_LENGTH_OF_SHORTER,
+    PART_MASKS_CYCLES, PART_LOOKS_BEHIND, PART_CHANGES_RECORDING, PART_CUTS_LENGTH,
     FAULTS
 };
 
@@ -631,4 +642,241 @@ struct pl022_text __wrap_pl022_read_text(const uint8_t *text, size_t text_len,
         lines[0] ^= 1;
     }
     return answer;
+}
+
+/* A copy of a recording that the judge is given instead; cycles past the limit do not matter. */
+static uint8_t *copied(const uint8_t *recording, size_t length)
+{
+    static uint8_t copy[BYTES_LIMIT];
+
+    memcpy(copy, recording, length < sizeof copy ? length : sizeof copy);
+    return copy;
+}
+
+/* What goes wrong before the judge looks at the recording. */
+static bool spoil_settings(uint32_t *cr0, uint32_t *cpsr, struct pl022_count *answer)
+{
+    *answer = (struct pl022_count){PL022_NOT_PERMITTED, 0};
+    if (chosen(JUDGE_CUTS_CR0)) {
+        *cr0 &= UINT16_MAX;
+    }
+    if (chosen(JUDGE_CUTS_CPSR)) {
+        *cpsr &= UINT8_MAX;
+    }
+    if (chosen(JUDGE_TAKES_CPSR_1) && *cpsr == 1) {
+        *cpsr = 2;
+    }
+    return chosen(JUDGE_REFUSES_ODD_CPSR) && *cpsr % 2 != 0;
+}
+
+/* What goes wrong with a recording that is accepted; old is what the places held. */
+static void spoil_accepted(uint32_t cr0, uint16_t *words, const uint16_t *old,
+                           struct pl022_count *answer)
+{
+    size_t last = (size_t)answer->count - 1;
+    uint32_t dss = (cr0 & PL022_CR0_DSS_MASK) >> PL022_CR0_DSS_SHIFT;
+
+    if (due(JUDGE_NINTH_PLACE, true)) {
+        words[PL022_QUEUE_WORDS] = 0;
+    }
+    if (due(JUDGE_LEAVES_REST, answer->count < PL022_QUEUE_WORDS)) {
+        words[PL022_QUEUE_WORDS - 1] = old[PL022_QUEUE_WORDS - 1];
+    }
+    if (chosen(JUDGE_NOT_CUT) && dss < 15) {
+        words[0] = (uint16_t)(words[0] | 2U << dss);
+    }
+    if (due(JUDGE_OTHER_WORD, true)) {
+        words[last] ^= 1;
+    }
+    if (chosen(JUDGE_SWAPS_WORDS)) {
+        uint16_t first = words[0];
+        words[0] = words[last];
+        words[last] = first;
+    }
+    if (due(JUDGE_COUNT_LESS, true)) {
+        answer->count--;
+    }
+    if (chosen(JUDGE_REFUSES_EIGHT) && answer->count == PL022_QUEUE_WORDS) {
+        memcpy(words, old, PL022_QUEUE_WORDS * sizeof words[0]);
+        *answer = (struct pl022_count){PL022_NO_MATCH, 0};
+    }
+}
+
+/* What goes wrong with the leading cycles. */
+static void spoil_leading(uint32_t cr0, uint32_t cpsr, const uint8_t *recording, size_t length,
+                          struct pl022_count *answer)
+{
+    uint16_t words[PL022_QUEUE_WORDS];
+    uint32_t scr = (cr0 & PL022_CR0_SCR_MASK) >> PL022_CR0_SCR_SHIFT;
+    struct pl022_count all = __real_pl022_judge(cr0, cpsr, recording, (size_t)answer->count, words);
+
+    if (due(LEADING_LESS, answer->count > 0)) {
+        answer->count--;
+    }
+    if (due(LEADING_MORE, answer->count < length)) {
+        answer->count++;
+    }
+    if (chosen(LEADING_LENGTH)) {
+        answer->count = length;
+    }
+    if (chosen(LEADING_SLOTS)) {
+        answer->count -= answer->count % (cpsr / 2 * (1 + scr));
+    }
+    if (chosen(LEADING_NONE_OF_EIGHT) && all.refusal == PL022_DONE
+        && all.count == PL022_QUEUE_WORDS) {
+        answer->count = 0;
+    }
+}
+
+/* What is wrongly accepted, with the words that the judge finds in something else. */
+static bool accepts(uint32_t cr0, uint32_t cpsr, const uint8_t *recording, size_t length,
+                    const struct pl022_count *refused, struct pl022_count *answer, uint16_t *words)
+{
+    uint8_t *copy = copied(recording, length);
+    uint16_t found[PL022_QUEUE_WORDS];
+    size_t leading = (size_t)refused->count;
+
+    if (chosen(JUDGE_TAKES_BEGINNING) && leading == length && length > 0) {
+        copy[length] = copy[length - 1];
+        length++;
+    } else if (chosen(JUDGE_TAKES_REST) && leading < length) {
+        length = leading;
+    } else if (chosen(JUDGE_MASKS_CYCLE)) {
+        for (size_t n = 0; n < length; n++) {
+            copy[n] &= PL022_OUTPUT_MASK;
+        }
+    } else if (chosen(JUDGE_IGNORES_NSSPOE) && leading < length) {
+        copy[leading] ^= PL022_NSSPOE;
+    } else {
+        return false;
+    }
+    struct pl022_count other = __real_pl022_judge(cr0, cpsr, copy, length, found);
+    if (other.refusal == PL022_DONE) {
+        memcpy(words, found, sizeof found);
+        *answer = other;
+    }
+    return other.refusal == PL022_DONE;
+}
+
+static void spoil_judge(const uint8_t *recording, size_t recording_len, uint16_t *words,
+                        struct pl022_count *answer)
+{
+    static uint64_t last;
+
+    if (chosen(JUDGE_SWAPS_6_22) && answer->refusal == PL022_NOT_PERMITTED
+        && recording_len > PL022_JUDGE_CYCLES) {
+        answer->refusal = PL022_TOO_LONG;
+    }
+    if (chosen(JUDGE_LIMIT_MORE) && answer->refusal == PL022_TOO_LONG
+        && recording_len == PL022_JUDGE_CYCLES + 1) {
+        answer->refusal = PL022_NO_MATCH;
+    }
+    if (due(JUDGE_COUNT_WITH_6, answer->refusal == PL022_NOT_PERMITTED)) {
+        answer->count = 1;
+    }
+    if (due(JUDGE_CHANGES_ON_REFUSAL, answer->refusal != PL022_DONE)) {
+        words[0] ^= 1;
+    }
+    if (due(JUDGE_CHANGES_RECORDING, recording_len > 0)) {
+        ((uint8_t *)(uintptr_t)recording)[0] ^= 1;
+    }
+    if (due(JUDGE_HIDDEN_STATE, answer->refusal == PL022_NO_MATCH && last <= recording_len)) {
+        answer->count = last;
+    }
+    last = answer->count;
+}
+
+struct pl022_count __wrap_pl022_judge(uint32_t cr0, uint32_t cpsr, const uint8_t *recording,
+                                      size_t recording_len, uint16_t *words)
+{
+    struct pl022_count answer;
+    uint16_t old[PL022_QUEUE_WORDS];
+
+    memcpy(old, words, sizeof old);
+    if (due(JUDGE_LOOKS_BEHIND, true)) {
+        look(recording + recording_len);
+    }
+    if (due(JUDGE_LOOKS_BEFORE, true)) {
+        look(recording - 1);
+    }
+    if (chosen(JUDGE_CUTS_LENGTH)) {
+        recording_len &= UINT32_MAX;
+    }
+    if (chosen(JUDGE_LIMIT_LESS) && recording_len == PL022_JUDGE_CYCLES) {
+        return (struct pl022_count){PL022_TOO_LONG, 0};
+    }
+    if (spoil_settings(&cr0, &cpsr, &answer)) {
+        return answer;
+    }
+    answer = __real_pl022_judge(cr0, cpsr, recording, recording_len, words);
+    if (answer.refusal == PL022_DONE) {
+        spoil_accepted(cr0, words, old, &answer);
+    } else if (answer.refusal == PL022_NO_MATCH) {
+        struct pl022_count refused = answer;
+        if (!accepts(cr0, cpsr, recording, recording_len, &refused, &answer, words)) {
+            spoil_leading(cr0, cpsr, recording, recording_len, &answer);
+        }
+    }
+    spoil_judge(recording, recording_len, words, &answer);
+    return answer;
+}
+
+/* The part as if only the lines of each cycle counted. */
+static struct pl022_part masked_difference(const uint8_t *first, size_t first_len,
+                                           const uint8_t *second, size_t second_len)
+{
+    static uint8_t copies[2][BYTES_LIMIT];
+
+    if (first_len > BYTES_LIMIT || second_len > BYTES_LIMIT) {
+        return __real_pl022_difference(first, first_len, second, second_len);
+    }
+    for (size_t n = 0; n < first_len; n++) {
+        copies[0][n] = first[n] & PL022_OUTPUT_MASK;
+    }
+    for (size_t n = 0; n < second_len; n++) {
+        copies[1][n] = second[n] & PL022_OUTPUT_MASK;
+    }
+    return __real_pl022_difference(copies[0], first_len, copies[1], second_len);
+}
+
+static void spoil_part(size_t first_len, size_t second_len, struct pl022_part *part)
+{
+    size_t shorter = first_len < second_len ? first_len : second_len;
+
+    if (chosen(PART_SECOND_OF_EQUAL) && first_len == second_len && part->length > 0) {
+        part->second = 1;
+    }
+    if (chosen(PART_OF_SHORTER) && first_len != second_len) {
+        part->second ^= 1;
+        part->length = shorter - part->start;
+    }
+    if (chosen(PART_LATE) && part->start < shorter) {
+        part->start++;
+        part->length--;
+    }
+    if (chosen(PART_NO_REST) && part->start == shorter) {
+        part->length = 0;
+    }
+    if (chosen(PART_LENGTH_OF_SHORTER)) {
+        part->length = shorter - part->start;
+    }
+}
+
+struct pl022_part __wrap_pl022_difference(const uint8_t *first, size_t first_len,
+                                          const uint8_t *second, size_t second_len)
+{
+    if (due(PART_LOOKS_BEHIND, true)) {
+        look(first + first_len);
+    }
+    if (chosen(PART_CUTS_LENGTH)) {
+        second_len &= UINT32_MAX;
+    }
+    struct pl022_part part = (chosen(PART_MASKS_CYCLES) ? masked_difference
+                                                        : __real_pl022_difference)(
+        first, first_len, second, second_len);
+    spoil_part(first_len, second_len, &part);
+    if (due(PART_CHANGES_RECORDING, part.length > 0)) {
+        ((uint8_t *)(uintptr_t)(part.second != 0 ? second : first))[part.start] ^= 1;
+    }
+    return part;
 }

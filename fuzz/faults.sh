@@ -12,7 +12,8 @@ cc -std=c11 -Wall -Wextra -Wpedantic -Wconversion -Wshadow -Werror -g -O1 -Iincl
 fuzz/build.sh "$built/with-faults" "$built/faults.o" \
     -Wl,--wrap=pl022_reset,--wrap=pl022_reset_edition,--wrap=pl022_read,--wrap=pl022_write \
     -Wl,--wrap=pl022_run,--wrap=pl022_run_to_idle,--wrap=pl022_pair_run \
-    -Wl,--wrap=pl022_write_text,--wrap=pl022_read_text
+    -Wl,--wrap=pl022_write_text,--wrap=pl022_read_text \
+    -Wl,--wrap=pl022_judge,--wrap=pl022_difference
 
 number=0
 missed=0
@@ -123,6 +124,45 @@ read text looks past the place that decides
 read text looks at the byte behind the text
 read text changes the lines though refused
 read text cuts the length to 32 bits
+judge answers 22 where 6 is due
+judge cuts CR0 to 16 bits
+judge cuts CPSR to 8 bits
+judge takes CPSR 1
+judge refuses an odd CPSR
+judge refuses 65,536 cycles with 22
+judge looks at 65,537 cycles
+judge cuts the length to 32 bits
+judge gives a count with 6
+judge looks at the byte behind the recording
+judge looks at the byte before the recording
+judge changes the recording
+judge depends on hidden state
+judge changes the words though refused
+judge writes a ninth place
+judge leaves a place behind the words
+judge gives a word that is not cut
+judge gives another word
+judge gives the words in another order
+judge gives one word too few
+judge refuses eight words
+judge accepts a recording that ends a cycle early
+judge accepts cycles behind a right recording
+judge looks at the low half of a byte only
+judge does not look at nSSPOE
+judge counts one leading cycle too few
+judge counts one leading cycle too many
+judge counts all cycles as leading
+judge counts leading slots
+judge counts no leading cycle behind eight words
+difference gives the second of two equally long
+difference gives a part of the shorter one
+difference starts a cycle late
+difference gives no rest past the shorter one
+difference ends with the shorter one
+difference looks at the low half of a byte only
+difference looks at the byte behind the first
+difference changes a recording
+difference cuts the length to 32 bits
 END
 echo "faults: $number tried, $missed missed"
 [ "$missed" -eq 0 ]

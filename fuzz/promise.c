@@ -4,6 +4,7 @@
 
 #include "arena.h"
 #include "lost.h"
+#include "promise_recording.h"
 #include "promise_text.h"
 #include "record.h"
 #include "report.h"
@@ -150,6 +151,9 @@ static uint64_t expected_refusal(const struct request *request, const struct out
     if (call_lends(request->call, ROLE_TEXT)) {
         return text_expected_refusal(request, outcome);
     }
+    if (call_lends(request->call, ROLE_RECORDING)) {
+        return recording_expected_refusal(request, outcome);
+    }
     if (!has_length(request, ROLE_RECORD) || !has_length(request, ROLE_SECOND)) {
         return PL022_WRONG_LENGTH;
     }
@@ -176,7 +180,8 @@ static void check_unchanged(const struct request *request, const struct outcome 
 
 static void check_refused(const struct request *request, const struct outcome *outcome)
 {
-    report_unless(outcome->result == 0 && outcome->starts == 0,
+    report_unless((outcome->result == 0 || outcome->refusal == PL022_NO_MATCH)
+                  && outcome->starts == 0,
                   "a word or count came with a refusal");
     report_unless(lost_nothing(outcome), "a lost word came with a refusal");
     for (unsigned role = 0; role < ROLES; role++) {
@@ -368,6 +373,12 @@ static void check_done(const struct request *request, const struct outcome *outc
     case CALL_READ_TEXT:
         text_check_read(request, outcome);
         break;
+    case CALL_JUDGE:
+        recording_check_accepted(request, outcome);
+        break;
+    case CALL_DIFFERENCE:
+        recording_check_difference(request, outcome);
+        break;
     default:
         break;
     }
@@ -387,6 +398,8 @@ void judge(const struct request *request, struct outcome *outcome)
                   "the header's table gives another refusal number");
     if (outcome->refusal == PL022_DONE) {
         check_done(request, outcome);
+    } else if (outcome->refusal == PL022_NO_MATCH) {
+        recording_check_no_match(request, outcome);
     }
     tally_call(request, outcome);
 }
@@ -415,5 +428,6 @@ void judge_wide_lengths(void)
         report_unless(bytes[i] == 0, "a call refused for a wide length changed a buffer");
     }
     text_judge_wide_lengths(bytes, wide);
+    recording_judge_wide_lengths(bytes, wide);
 #endif
 }

@@ -72,6 +72,7 @@ static void repeat(const struct request *request, const struct outcome *outcome)
     judge(&part, &one);
     agree(one.refusal == outcome->refusal && one.result == outcome->result
           && one.starts == outcome->starts && lost_equal(one.lost, outcome->lost)
+          && memcmp(&one.part, &outcome->part, sizeof one.part) == 0
           && same_records(request, &one, outcome) && same_written(request, &one, outcome),
           request, outcome, "the same call on a copy gave something else");
 }
@@ -115,6 +116,67 @@ static void extend_text(const struct request *request, const struct outcome *out
     judge(&part, &one);
     agree(one.refusal == outcome->refusal, request, outcome,
           "what follows the place that decided made a difference");
+}
+
+/* The other judgement is the same, with so many times the leading cycles. */
+static void judged_alike(const struct request *request, const struct outcome *outcome,
+                         uint64_t times, const char *what)
+{
+    bool accepted = outcome->refusal == PL022_DONE;
+
+    part.due = (struct due){.known = false};
+    judge(&part, &one);
+    agree(one.refusal == outcome->refusal
+          && one.result == (accepted ? outcome->result : times * outcome->result)
+          && (!accepted || bytes_equal(&one.after[ROLE_WORDS], &outcome->after[ROLE_WORDS])),
+          request, outcome, what);
+}
+
+/* The recording of a master whose slots have twice as many cycles, if it can be judged. */
+static void double_slots(const struct request *request, const struct outcome *outcome)
+{
+    const struct bytes *recording = &request->lent[ROLE_RECORDING];
+    uint32_t cpsr = request->cpsr & ~1U;
+
+    if (2 * cpsr > UINT8_MAX || 2 * recording->length > PL022_JUDGE_CYCLES) {
+        return;
+    }
+    request_copy(&part, request);
+    part.cpsr = 2 * cpsr;
+    part.lent[ROLE_RECORDING].length = 2 * recording->length;
+    for (size_t n = 0; n < 2 * recording->length; n++) {
+        part.lent[ROLE_RECORDING].data[n] = recording->data[n / 2];
+    }
+    judged_alike(request, outcome, 2, "a recording with slots twice as long is judged otherwise");
+}
+
+/* SPO inverts CLK in Motorola, and nothing elsewhere. */
+static void other_polarity(const struct request *request, const struct outcome *outcome)
+{
+    struct bytes *recording = &part.lent[ROLE_RECORDING];
+    bool motorola = (request->cr0 & PL022_CR0_FRF_MASK) == PL022_CR0_FRF_MOTOROLA;
+
+    request_copy(&part, request);
+    part.cr0 ^= PL022_CR0_SPO;
+    for (size_t n = 0; motorola && n < recording->length; n++) {
+        recording->data[n] ^= PL022_CLK;
+    }
+    judged_alike(request, outcome, 1, "a recording with the other SPO is judged otherwise");
+}
+
+/* The same two recordings in the other order; of two equally long ones it is always the first's. */
+static void swap_recordings(const struct request *request, const struct outcome *outcome)
+{
+    const struct bytes *first = &request->lent[ROLE_RECORDING];
+    const struct bytes *second = &request->lent[ROLE_RECORDING_2];
+
+    request_copy(&part, request);
+    bytes_set(&part.lent[ROLE_RECORDING], second->data, second->length);
+    bytes_set(&part.lent[ROLE_RECORDING_2], first->data, first->length);
+    judge(&part, &one);
+    agree(one.part.start == outcome->part.start && one.part.length == outcome->part.length
+          && one.part.second == (first->length > second->length),
+          request, outcome, "two recordings differ elsewhere in the other order");
 }
 
 static void run_part(const uint8_t *record, const uint8_t *input, size_t cycles,
@@ -355,10 +417,17 @@ void relate(const struct request *request, const struct outcome *outcome)
     bool decided = outcome->refusal == PL022_TOO_MANY_CYCLES
                 || outcome->refusal == PL022_BAD_CHARACTER || outcome->refusal == PL022_EMPTY_LINE;
 
+    bool judged = request->call == CALL_JUDGE
+               && (outcome->refusal == PL022_DONE || outcome->refusal == PL022_NO_MATCH);
+
     if (request->call == CALL_READ_TEXT && decided && draw_one_in(2)) {
         extend_text(request, outcome);
+    } else if (judged && !draw_one_in(3)) {
+        (draw_one_in(2) ? double_slots : other_polarity)(request, outcome);
     } else if (outcome->refusal != PL022_DONE || draw_one_in(3)) {
         repeat(request, outcome);
+    } else if (request->call == CALL_DIFFERENCE) {
+        swap_recordings(request, outcome);
     } else if (call_runs(request->call) && draw_one_in(lost_words(outcome) > 0 ? 2 : 8)) {
         run_drained(request, outcome);
     } else if (call_runs_lines(request->call) && record_stopped(request->lent[ROLE_RECORD].data)) {

@@ -49,8 +49,9 @@ static void print_call(void)
     if (request == NULL) {
         return;
     }
-    fprintf(stderr, "  %s offset 0x%" PRIx32 " value 0x%" PRIx32 " cycles 0x%" PRIx64 "\n",
-            call_name(request->call), request->offset, request->value, request->cycles);
+    fprintf(stderr, "  %s offset 0x%" PRIx32 " value 0x%" PRIx32 " cycles 0x%" PRIx64
+            " CR0 0x%" PRIx32 " CPSR 0x%" PRIx32 "\n", call_name(request->call), request->offset,
+            request->value, request->cycles, request->cr0, request->cpsr);
     for (unsigned role = 0; role < ROLES; role++) {
         if (call_lends(request->call, role)) {
             print_bytes("lent", role, &request->lent[role]);
@@ -66,6 +67,9 @@ static void print_call(void)
             current.outcome->refusal, current.outcome->result, current.outcome->starts,
             lost[ROLE_RECORD].count, lost[ROLE_RECORD].last,
             lost[ROLE_SECOND].count, lost[ROLE_SECOND].last);
+    const struct pl022_part *part = &current.outcome->part;
+    fprintf(stderr, "  part of %s from %" PRIu64 ", length %" PRIu64 "\n",
+            part->second == 0 ? "the first" : "the second", part->start, part->length);
     for (unsigned role = 0; role < ROLES; role++) {
         if (call_lends(request->call, role)) {
             print_bytes("left", role, &current.outcome->after[role]);

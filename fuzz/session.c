@@ -8,6 +8,7 @@
 #include "promise.h"
 #include "record.h"
 #include "relate.h"
+#include "session_recording.h"
 #include "session_text.h"
 
 enum { DEVICES = 2, MOST_STEPS = 40 };
@@ -402,6 +403,13 @@ static void step_text(unsigned which)
     session_text();
 }
 
+/* Nor is a recording. */
+static void step_recording(unsigned which)
+{
+    (void)which;
+    session_recording();
+}
+
 static void start(unsigned which)
 {
     struct device *device = &devices[which];
@@ -449,7 +457,7 @@ void session(void)
         {step_set_up, 5},  {step_set_up_pair, 1}, {step_load, 8},     {step_drain, 5},
         {step_run, 12},    {step_run_to_idle, 8}, {step_pair_run, 5}, {step_status, 8},
         {step_disable, 2}, {step_stop, 4},        {step_noise, 20},   {start, 2},
-        {step_text, 6},    {step_overrun, 2},
+        {step_text, 6},    {step_overrun, 2},     {step_recording, 6},
     };
     uint32_t total = 0;
     for (size_t i = 0; i < sizeof steps / sizeof steps[0]; i++) {

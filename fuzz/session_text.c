@@ -178,7 +178,7 @@ static void write_spoiled(void)
 static void lend_text(uint64_t refusal, size_t cycles_due, size_t starts_due)
 {
     request.call = CALL_READ_TEXT;
-    request.due = (struct due){true, refusal, cycles_due, starts_due};
+    request.due = (struct due){true, refusal, cycles_due, starts_due, 0};
     bytes_set(&request.lent[ROLE_TEXT], text.data, text.length);
     lend_room(ROLE_LINES, draw_room(cycles_due));
     lend_room(ROLE_PLACES, PLACE_SIZE * draw_room(starts_due));

@@ -8,6 +8,9 @@
 
 enum { ROLES_OF_DEVICE = 2, SIZES = 16, RAW_BITS = 4 };
 
+/* The formats, with Motorola's phases apart. */
+enum { KINDS = FORMATS + 1 };
+
 static uint64_t calls;
 static uint64_t digest;
 static uint64_t answers[CALLS][REFUSALS];
@@ -24,6 +27,12 @@ static uint64_t overrun_stopped; /* runs that lost a word with SSE clear */
 static uint64_t lost_zeros;      /* runs whose last lost word was 0 */
 static uint64_t raw_seen[RAW_BITS];
 static uint64_t full_texts[CALLS];
+static uint64_t accepted[KINDS][PL022_QUEUE_WORDS + 1]; /* recordings, by number of words */
+static uint64_t cut_short[KINDS];  /* recordings of which all cycles were leading */
+static uint64_t wrong_later[KINDS]; /* of which some were */
+static uint64_t full_recordings;   /* accepted ones with as many cycles as can be judged */
+static uint64_t parts[2];          /* of the first, of the second recording */
+static uint64_t equal_recordings;
 
 static void tally_lost(const struct request *request, const struct outcome *outcome,
                        enum role role)
@@ -69,6 +78,31 @@ static void tally_write(const struct request *request)
     }
 }
 
+static unsigned kind_of(uint32_t cr0)
+{
+    uint32_t format = (cr0 & PL022_CR0_FRF_MASK) >> PL022_CR0_FRF_SHIFT;
+    return format > 0 ? format + 1 : (cr0 & PL022_CR0_SPH) != 0;
+}
+
+static void tally_judge(const struct request *request, const struct outcome *outcome)
+{
+    size_t length = request->lent[ROLE_RECORDING].length;
+    unsigned kind = kind_of(request->cr0);
+
+    if (outcome->refusal == PL022_DONE) {
+        accepted[kind][outcome->result]++;
+        full_recordings += length == PL022_JUDGE_CYCLES;
+    } else if (outcome->refusal == PL022_NO_MATCH && outcome->result > 0) {
+        (outcome->result == length ? cut_short : wrong_later)[kind]++;
+    }
+}
+
+static void tally_difference(const struct outcome *outcome)
+{
+    parts[outcome->part.second] += outcome->part.length > 0;
+    equal_recordings += outcome->part.length == 0;
+}
+
 static void digest_number(uint64_t number)
 {
     digest = (digest ^ number) * UINT64_C(0x100000001B3);
@@ -83,6 +117,8 @@ static void digest_outcome(enum call call, const struct outcome *outcome)
         digest_number(outcome->lost[role].count);
         digest_number(outcome->lost[role].last);
     }
+    digest_number(outcome->part.start);
+    digest_number(outcome->part.length);
 }
 
 static void tally_runs(const struct request *request, const struct outcome *outcome)
@@ -100,6 +136,9 @@ void tally_call(const struct request *request, const struct outcome *outcome)
     calls++;
     answers[request->call][outcome->refusal]++;
     digest_outcome(request->call, outcome);
+    if (request->call == CALL_JUDGE) {
+        tally_judge(request, outcome);
+    }
     if (outcome->refusal != PL022_DONE) {
         return;
     }
@@ -115,6 +154,8 @@ void tally_call(const struct request *request, const struct outcome *outcome)
         uint64_t cycles = request->call == CALL_WRITE_TEXT ? request->lent[ROLE_LINES].length
                                                            : outcome->result;
         full_texts[request->call] += cycles == PL022_TEXT_CYCLES;
+    } else if (request->call == CALL_DIFFERENCE) {
+        tally_difference(outcome);
     }
 }
 
@@ -153,6 +194,20 @@ static void print_lost(void)
            overrun_pairs, overrun_stopped, lost_zeros);
 }
 
+static void print_recordings(void)
+{
+    static const char *const names[KINDS] = {"SPH 0", "SPH 1", "TI", "Microwire"};
+
+    for (unsigned kind = 0; kind < KINDS; kind++) {
+        printf("; recordings of %s accepted with 1 word %" PRIu64 ", with 8 %" PRIu64
+               ", cut short %" PRIu64 ", wrong later %" PRIu64, names[kind], accepted[kind][1],
+               accepted[kind][PL022_QUEUE_WORDS], cut_short[kind], wrong_later[kind]);
+    }
+    printf("; recordings of %d cycles accepted %" PRIu64 "; parts of the first %" PRIu64
+           ", of the second %" PRIu64 ", none %" PRIu64, PL022_JUDGE_CYCLES, full_recordings,
+           parts[0], parts[1], equal_recordings);
+}
+
 void tally_print(void)
 {
     for (unsigned call = 0; call < CALLS; call++) {
@@ -167,6 +222,7 @@ void tally_print(void)
     print_lost();
     printf("; texts of %d cycles written %" PRIu64 ", read %" PRIu64, PL022_TEXT_CYCLES,
            full_texts[CALL_WRITE_TEXT], full_texts[CALL_READ_TEXT]);
+    print_recordings();
 }
 
 static bool formats_complete(void)
@@ -211,10 +267,26 @@ static bool lost_complete(void)
     return complete;
 }
 
+static bool recordings_complete(void)
+{
+    bool complete = full_recordings > 0 && parts[0] > 0 && parts[1] > 0 && equal_recordings > 0;
+    for (unsigned kind = 0; kind < KINDS; kind++) {
+        for (unsigned count = 1; count <= PL022_QUEUE_WORDS; count++) {
+            complete = complete && accepted[kind][count] > 0;
+        }
+        complete = complete && cut_short[kind] > 0 && wrong_later[kind] > 0;
+    }
+    if (!complete) {
+        fputs("fuzz: never accepted or refused a kind of recording, or compared one\n", stderr);
+    }
+    return complete;
+}
+
 bool tally_complete(void)
 {
     bool formats = formats_complete();
-    bool complete = lost_complete() && formats;
+    bool recordings = recordings_complete();
+    bool complete = lost_complete() && formats && recordings;
     for (unsigned call = 0; call < CALLS; call++) {
         for (unsigned number = 0; number < REFUSALS; number++) {
             if (call_may_answer(call, number) && answers[call][number] == 0) {

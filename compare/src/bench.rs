@@ -1,12 +1,16 @@
 //! Two programs side by side: each call goes to both and all it gave is compared.
 
 use crate::command::{hex, numbers, Command};
+use crate::device::refusal;
+use crate::difference::Part;
 use crate::model::Model;
-use crate::overruns::{contradicts_itself, Overruns};
+use crate::overruns::{self, Overruns};
 use crate::ran::Lost;
 use crate::record::LENGTH;
-use crate::session::{Outcome, Session, PREFILL, PREFILL_NUMBER};
+use crate::session::{Outcome, Session, PREFILL, PREFILL_NUMBER, PREFILL_WORD};
 use crate::stopped::Stopped;
+use crate::tally::Tally;
+use crate::verdicts::{self, Verdicts};
 use std::fmt;
 use std::fs::File;
 use std::io::{Seek, Write};
@@ -16,36 +20,6 @@ use std::io::{Seek, Write};
 pub struct Difference(pub String);
 
 pub type Step<T> = Result<T, Difference>;
-
-/// Calls with texts, by refusal number; 0 is done.
-#[derive(Clone, Copy, Default)]
-pub struct Tally([u64; 20]);
-
-impl Tally {
-    fn add(&mut self, refusal: u64) {
-        if let Some(count) = self.0.get_mut(refusal as usize) {
-            *count += 1;
-        }
-    }
-
-    pub fn of(&self, refusal: u32) -> u64 {
-        self.0[refusal as usize]
-    }
-
-    pub fn total(&self) -> u64 {
-        self.0.iter().sum()
-    }
-}
-
-impl fmt::Display for Tally {
-    fn fmt(&self, f: &mut fmt::Formatter) -> fmt::Result {
-        write!(f, "{} (done {}", self.total(), self.0[0])?;
-        for (number, count) in self.0.iter().enumerate().skip(1).filter(|(_, count)| **count > 0) {
-            write!(f, ", {number}: {count}")?;
-        }
-        write!(f, ")")
-    }
-}
 
 #[derive(Clone, Copy, Default)]
 pub struct Counts {
@@ -64,6 +38,7 @@ pub struct Counts {
     pub read_text: Tally,
     /// Texts drawn by chance; each takes several calls.
     pub random_texts: u64,
+    pub verdicts: Verdicts,
 }
 
 impl Counts {
@@ -71,6 +46,8 @@ impl Counts {
         match command {
             Command::WriteText { .. } => self.write_text.add(outcome.refusal),
             Command::ReadText { .. } => self.read_text.add(outcome.refusal),
+            Command::Judge { cr0, .. } => self.verdicts.add(*cr0, outcome.refusal),
+            Command::Difference { .. } => self.verdicts.differences += 1,
             _ => self.add_to_devices(command, outcome),
         }
     }
@@ -104,7 +81,7 @@ impl Counts {
         format!("texts: {write_text} written, {read_text} read; {random_texts} random texts")
     }
 
-    /// Of devices; those of texts are counted for themselves.
+    /// Of devices; those of texts and recordings are counted for themselves.
     pub fn calls(&self) -> u64 {
         self.reset + self.read + self.write + self.run + self.idle + self.pair
     }
@@ -193,7 +170,10 @@ impl<'m> Bench<'m> {
         let found = self
             .compare(&one, &other)
             .or_else(|| self.refused_unchanged(&before, &one))
-            .or_else(|| contradicts_itself(&command, &before, &self.other.records, &other));
+            .or_else(|| {
+                overruns::contradicts_itself(&command, &before, &self.other.records, &other)
+            })
+            .or_else(|| verdicts::contradicts_itself(&command, &other));
         self.log.push(command);
         if let Some(what) = found {
             return Err(self.difference(&what, &before, &one, &other));
@@ -244,6 +224,12 @@ impl<'m> Bench<'m> {
         if let Some(at) = first_difference(&one.starts, &other.starts) {
             return Some(format!("line start {at} differs"));
         }
+        if let Some(at) = first_difference(&one.words, &other.words) {
+            return Some(format!("place {at} for a word differs"));
+        }
+        if one.part != other.part {
+            return Some("parts differ".to_string());
+        }
         for (device, (a, b)) in self.second.records.iter().zip(&self.other.records).enumerate() {
             if let Some(at) = first_difference(a, b) {
                 return Some(format!("record {device} differs at byte {at}"));
@@ -252,13 +238,15 @@ impl<'m> Bench<'m> {
         None
     }
 
-    /// Whatever the programs agree on, a refusal must leave all as it was.
+    /// Whatever the programs agree on, a refusal must leave all as it was. Only a recording that
+    /// no list gives is refused with a count.
     fn refused_unchanged(&self, before: &[Vec<u8>; 2], outcome: &Outcome) -> Option<String> {
-        let untouched = outcome.value == 0
+        let untouched = (outcome.value == 0 || outcome.refusal == u64::from(refusal::NO_LIST))
             && outcome.lines == 0
             && outcome.lost == [Lost::default(); 2]
             && outcome.output.iter().all(|byte| *byte == PREFILL)
             && outcome.starts.iter().all(|number| *number == PREFILL_NUMBER)
+            && outcome.words.iter().all(|word| *word == PREFILL_WORD)
             && *before == self.second.records;
         (outcome.refusal != 0 && !untouched).then(|| "a refused call changed something".to_string())
     }
@@ -282,6 +270,9 @@ impl<'m> Bench<'m> {
             if outcome.lines != 0 || !outcome.starts.is_empty() {
                 text += &format!("# {name} lines {}", outcome.lines);
                 text += &format!(" starts {}\n", numbers(&outcome.starts));
+            }
+            if !outcome.words.is_empty() || outcome.part != Part::default() {
+                text += &format!("# {name} words {:x?} {:?}\n", outcome.words, outcome.part);
             }
             for record in &session.records {
                 text += &format!("# {name} record after {}\n", hex(record));

@@ -58,6 +58,15 @@ pub enum Command {
         cycles_len: usize,
         starts_len: usize,
     },
+    Judge {
+        cr0: u32,
+        cpsr: u32,
+        recording: Vec<u8>,
+    },
+    Difference {
+        first: Vec<u8>,
+        second: Vec<u8>,
+    },
 }
 
 pub fn hex(bytes: &[u8]) -> String {
@@ -130,10 +139,19 @@ impl Command {
                 cycles_len: cycles_len.parse().ok()?,
                 starts_len: starts_len.parse().ok()?,
             }),
+            ["judge", cr0, cpsr, cycles] => parse_judge(cr0, cpsr, parse_digits(cycles)?),
+            ["lendjudge", cr0, cpsr, cycles] => parse_judge(cr0, cpsr, parse_hex(cycles)?),
+            ["difference", first, second] => {
+                Some(Command::Difference { first: parse_hex(first)?, second: parse_hex(second)? })
+            }
             [name, device, ref rest @ ..] => parse_for(name, parse_device(device)?, rest),
             _ => None,
         }
     }
+}
+
+fn parse_judge(cr0: &str, cpsr: &str, recording: Vec<u8>) -> Option<Command> {
+    Some(Command::Judge { cr0: parse_number(cr0)?, cpsr: parse_number(cpsr)?, recording })
 }
 
 fn parse_for(name: &str, device: usize, rest: &[&str]) -> Option<Command> {
@@ -216,6 +234,15 @@ impl fmt::Display for Command {
             }
             Command::ReadText { text, cycles_len, starts_len } => {
                 write!(f, "readtext {} {cycles_len} {starts_len}", hex(text))
+            }
+            Command::Judge { cr0, cpsr, recording } if is_short(recording, recording.len()) => {
+                write!(f, "judge {cr0:x} {cpsr:x} {}", digits(recording))
+            }
+            Command::Judge { cr0, cpsr, recording } => {
+                write!(f, "lendjudge {cr0:x} {cpsr:x} {}", hex(recording))
+            }
+            Command::Difference { first, second } => {
+                write!(f, "difference {} {}", hex(first), hex(second))
             }
         }
     }

@@ -5,6 +5,8 @@ pub use linked::Library;
 
 #[cfg(feature = "library")]
 mod linked {
+    use crate::device::PLACES;
+    use crate::difference::Part;
     use crate::model::Model;
     use crate::ran::{PairRan, Ran};
 
@@ -74,6 +76,19 @@ mod linked {
             starts: *mut u32,
             starts_len: usize,
         ) -> Text;
+        fn pl022_judge(
+            cr0: u32,
+            cpsr: u32,
+            recording: *const u8,
+            recording_len: usize,
+            words: *mut u16,
+        ) -> Count;
+        fn pl022_difference(
+            first: *const u8,
+            first_len: usize,
+            second: *const u8,
+            second_len: usize,
+        ) -> Part;
     }
 
     /// The archive linked by build.rs.
@@ -163,6 +178,23 @@ mod linked {
                 )
             };
             (answer.refusal, answer.cycles, answer.starts)
+        }
+
+        fn judge(
+            &self,
+            cr0: u32,
+            cpsr: u32,
+            recording: &[u8],
+            words: &mut [u16; PLACES],
+        ) -> (u64, u64) {
+            let (lines, places) = (recording.as_ptr(), words.as_mut_ptr());
+            let answer = unsafe { pl022_judge(cr0, cpsr, lines, recording.len(), places) };
+            (answer.refusal, answer.count)
+        }
+
+        fn difference(&self, first: &[u8], second: &[u8]) -> Part {
+            let (one, other) = (first.as_ptr(), second.as_ptr());
+            unsafe { pl022_difference(one, first.len(), other, second.len()) }
         }
     }
 }

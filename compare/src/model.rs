@@ -1,7 +1,9 @@
 //! The calls as a trait, so that two programs can stand side by side.
 
+use crate::device::PLACES;
+use crate::difference::{difference, Part};
 use crate::ran::{PairRan, Ran};
-use crate::{calls, text};
+use crate::{calls, judge, text};
 
 pub trait Model {
     fn reset(&self, record: &mut [u8]) -> u32;
@@ -13,6 +15,9 @@ pub trait Model {
     fn pair_run(&self, first: &mut [u8], second: &mut [u8], cycles: u64) -> PairRan;
     fn write_text(&self, cycles: &[u8], places: &[u32], text: &mut [u8]) -> (u64, u64);
     fn read_text(&self, text: &[u8], cycles: &mut [u8], starts: &mut [u32]) -> (u64, u64, u64);
+    fn judge(&self, cr0: u32, cpsr: u32, recording: &[u8], words: &mut [u16; PLACES])
+        -> (u64, u64);
+    fn difference(&self, first: &[u8], second: &[u8]) -> Part;
 }
 
 /// The program of this crate.
@@ -53,5 +58,19 @@ impl Model for Second {
 
     fn read_text(&self, text: &[u8], cycles: &mut [u8], starts: &mut [u32]) -> (u64, u64, u64) {
         text::read_text(text, cycles, starts)
+    }
+
+    fn judge(
+        &self,
+        cr0: u32,
+        cpsr: u32,
+        recording: &[u8],
+        words: &mut [u16; PLACES],
+    ) -> (u64, u64) {
+        judge::judge(cr0, cpsr, recording, words)
+    }
+
+    fn difference(&self, first: &[u8], second: &[u8]) -> Part {
+        difference(first, second)
     }
 }

@@ -2,9 +2,10 @@
 
 use crate::command::{digits, hex, is_short, numbers, Command};
 use crate::device::Device;
+use crate::difference::Part;
 use crate::ran::Lost;
 use crate::record::{at, sound_device};
-use crate::session::{Outcome, Session};
+use crate::session::{Outcome, Session, PREFILL_WORD};
 
 /// The answer to a command.
 #[derive(Clone, PartialEq, Eq, Debug)]
@@ -74,8 +75,23 @@ fn show_outcome(command: &Command, outcome: &Outcome) -> String {
             let counts = format!("{} {} {}", outcome.refusal, outcome.value, outcome.lines);
             format!("{counts} {} {}", hex(&outcome.output), numbers(&outcome.starts))
         }
+        Command::Judge { .. } => {
+            format!("{} {} {}", outcome.refusal, outcome.value, show_places(outcome))
+        }
+        Command::Difference { .. } => {
+            let Part { second, start, length } = outcome.part;
+            format!("{second} {start} {length}")
+        }
         _ => outcome.refusal.to_string(),
     }
+}
+
+/// Nothing after a refusal that has left them as they were.
+fn show_places(outcome: &Outcome) -> String {
+    if outcome.refusal != 0 && outcome.words.iter().all(|word| *word == PREFILL_WORD) {
+        return "-".to_string();
+    }
+    show_words(&outcome.words)
 }
 
 /// Digits in the short form, all bytes with two digits each in the long one.

@@ -1,6 +1,8 @@
 //! Two devices of one program, and commands carried out on them.
 
 use crate::command::Command;
+use crate::device::PLACES;
+use crate::difference::Part;
 use crate::model::Model;
 use crate::ran::{Lost, Ran};
 use crate::record::LENGTH;
@@ -8,17 +10,22 @@ use crate::record::LENGTH;
 /// What output buffers hold before a call, so that untouched bytes show.
 pub const PREFILL: u8 = 0xEE;
 pub const PREFILL_NUMBER: u32 = 0xEEEE_EEEE;
+pub const PREFILL_WORD: u16 = 0xEEEE;
 
 /// Guards on each side of a buffer.
 const GUARDS: usize = 32;
 
-/// What a lent buffer holds: bytes, or numbers.
+/// What a lent buffer holds: bytes, words or numbers.
 trait Item: Copy + PartialEq {
     const GUARD: Self;
 }
 
 impl Item for u8 {
     const GUARD: u8 = 0x5C;
+}
+
+impl Item for u16 {
+    const GUARD: u16 = 0x5C5C;
 }
 
 impl Item for u32 {
@@ -60,7 +67,7 @@ impl<T: Item> Lent<T> {
 #[derive(Clone, PartialEq, Eq, Debug, Default)]
 pub struct Outcome {
     pub refusal: u64,
-    /// The word read, the cycles counted, or the bytes of a text.
+    /// The word read, the cycles counted, the bytes of a text, or what a verdict counts.
     pub value: u64,
     /// What each device lost.
     pub lost: [Lost; 2],
@@ -69,6 +76,10 @@ pub struct Outcome {
     pub output: Vec<u8>,
     /// The buffer for line starts.
     pub starts: Vec<u32>,
+    /// The eight places of a verdict.
+    pub words: Vec<u16>,
+    /// What differs in two recordings.
+    pub part: Part,
     /// Guards and input are as they were.
     pub intact: bool,
 }
@@ -131,6 +142,8 @@ impl<'m> Session<'m> {
             Command::ReadText { text, cycles_len, starts_len } => {
                 self.read_text(text, *cycles_len, *starts_len)
             }
+            Command::Judge { cr0, cpsr, recording } => self.judge(*cr0, *cpsr, recording),
+            Command::Difference { first, second } => self.difference(first, second),
         }
     }
 
@@ -209,5 +222,26 @@ impl<'m> Session<'m> {
             starts: starts.content().to_vec(),
             ..Outcome::default()
         }
+    }
+
+    fn judge(&self, cr0: u32, cpsr: u32, recording: &[u8]) -> Outcome {
+        let mut lent = Lent::new(recording);
+        let mut words = Lent::new(&[PREFILL_WORD; PLACES]);
+        let places = words.content().first_chunk_mut().expect("eight places are lent");
+        let (refusal, value) = self.model.judge(cr0, cpsr, lent.content(), places);
+        Outcome {
+            refusal,
+            value,
+            intact: lent.holds(recording) && words.intact(),
+            words: words.content().to_vec(),
+            ..Outcome::default()
+        }
+    }
+
+    fn difference(&self, first: &[u8], second: &[u8]) -> Outcome {
+        let (mut one, mut other) = (Lent::new(first), Lent::new(second));
+        let part = self.model.difference(one.content(), other.content());
+        let intact = one.holds(first) && other.holds(second);
+        Outcome { part, intact, ..Outcome::default() }
     }
 }

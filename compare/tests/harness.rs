@@ -1,10 +1,10 @@
 //! The harness itself: it agrees with itself and finds faults.
 
 use compare::bench::Bench;
-use compare::cases::{bits, full, random_text, stops, text};
-use compare::cases::{run, run_editions, run_lost, run_texts, Plan};
-use compare::fault::{Faulty, BIT_FAULTS, EDITION_FAULTS, FAULTS, LOST_FAULTS};
-use compare::fault::{MICROWIRE_FAULTS, TEXT_FAULTS, TIMEOUT_FAULTS};
+use compare::cases::{bits, difference, full, judge, random_judge, random_text, stops, text};
+use compare::cases::{run, run_editions, run_judge, run_lost, run_texts, Plan};
+use compare::fault::{Faulty, BIT_FAULTS, DIFFERENCE_FAULTS, EDITION_FAULTS, FAULTS};
+use compare::fault::{JUDGE_FAULTS, LOST_FAULTS, MICROWIRE_FAULTS, TEXT_FAULTS, TIMEOUT_FAULTS};
 use compare::model::Second;
 use compare::random::Random;
 
@@ -157,4 +157,65 @@ fn texts_meet_every_refusal() {
     for number in [0, 13, 16, 17, 18, 19] {
         assert!(bench.counts.read_text.of(number) > 0, "reading, {number}");
     }
+}
+
+/// The fixed recordings find each fault, and random ones do in some rounds, whatever the seed.
+#[test]
+fn verdicts_find_their_faults_alone() {
+    for number in JUDGE_FAULTS {
+        let faulty = Faulty::new(number);
+        let mut bench = Bench::new(&Second, &faulty);
+        assert!(judge::fixed(&mut bench, &mut Random::new(0)).is_err(), "fault {number}");
+        for seed in 1..=10 {
+            let plan = Plan { seed: seed << 32, rounds: 24, limit: None };
+            assert!(run_judge(&mut bench, &plan).is_err(), "fault {number}, seed {seed}");
+        }
+    }
+}
+
+/// The same of two recordings.
+#[test]
+fn differences_find_their_faults_alone() {
+    for number in DIFFERENCE_FAULTS {
+        let faulty = Faulty::new(number);
+        let mut bench = Bench::new(&Second, &faulty);
+        assert!(difference::fixed(&mut bench, &mut Random::new(0)).is_err(), "fault {number}");
+        for seed in 1..=10 {
+            let mut random = Random::new(seed << 32);
+            let found = (0..24).any(|_| difference::random(&mut bench, &mut random).is_err());
+            assert!(found, "fault {number}, seed {seed}");
+        }
+    }
+}
+
+/// Both programs have the fault, so that they agree; what must hold of a verdict or a part,
+/// and of recordings whose list is known, shows it.
+#[test]
+fn verdicts_contradict_what_is_known() {
+    for number in JUDGE_FAULTS {
+        let faulty = [Faulty::new(number), Faulty::new(number)];
+        let mut bench = Bench::new(&faulty[0], &faulty[1]);
+        assert!(judge::fixed(&mut bench, &mut Random::new(0)).is_err(), "fault {number}");
+    }
+    for number in DIFFERENCE_FAULTS {
+        let faulty = [Faulty::new(number), Faulty::new(number)];
+        let mut bench = Bench::new(&faulty[0], &faulty[1]);
+        assert!(difference::fixed(&mut bench, &mut Random::new(0)).is_err(), "fault {number}");
+    }
+}
+
+/// Random recordings alone are accepted and refused in each format and phase, and refused for
+/// their settings and their length.
+#[test]
+fn recordings_meet_every_verdict() {
+    let mut bench = Bench::new(&Second, &Second);
+    assert!(run_judge(&mut bench, &Plan { rounds: 24, ..PLAN }).is_ok());
+    let verdicts = bench.counts.verdicts;
+    assert_eq!(verdicts.random, 24 * random_judge::RECORDINGS);
+    for format in 0..4 {
+        let tally = verdicts.of(format);
+        let what = format!("format {format}: {tally}");
+        assert!(tally.of(0) > 50 && tally.of(21) > 200 && tally.of(22) > 2, "{what}");
+    }
+    assert!(verdicts.settings > 200 && verdicts.differences > 3000, "{verdicts}");
 }

@@ -28,6 +28,8 @@ const char *refusal_text(uint32_t refusal)
         [PL022_EMPTY_LINE] = "a line has no cycle",
         [PL022_NO_LINE_FEED] = "the last line feed is missing",
         [PL022_NO_EDITION] = "the edition is neither 1 nor 2",
+        [PL022_NO_MATCH] = "no list of one to eight words gives the recording",
+        [PL022_TOO_LONG] = "the recording is longer than can be judged",
     };
     return refusal < sizeof texts / sizeof texts[0] ? texts[refusal] : "unknown number";
 }

@@ -1,4 +1,4 @@
-/* refusals.c: every refusal, provoked on purpose on a device or a text of its own. */
+/* refusals.c: every refusal, provoked on purpose on a device, a text or a recording of its own. */
 #include <inttypes.h>
 #include <stdio.h>
 #include <stdlib.h>
@@ -91,6 +91,30 @@ static const struct text_attempt text_attempts[] = {
     { PL022_EMPTY_LINE,    "BA541054\n\n", 18, 0, 0, 0, "read of a text, second line empty" },
     { PL022_NO_LINE_FEED,  "BA541054\n3210541054", 18, 0, 0, 0,
       "read of a text, no last line feed" },
+};
+
+/* A TI master with h 1 and words of 4 bits sends A and 5 in these cycles. */
+static const uint8_t ti_recording[] = {
+    0xB, 0xA, 5, 4, 1, 0, 5, 4, 3, 2, 1, 0, 5, 4, 1, 0, 5, 4
+};
+enum { TI_WORDS = 2, TI_CYCLES = sizeof ti_recording };
+
+struct judge_attempt {
+    uint32_t refusal;           /* expected */
+    uint32_t cpsr;
+    size_t cycles;              /* of the recording, with zeros behind it */
+    size_t changed;             /* the cycle that is changed; TI_CYCLES: none */
+    uint64_t count;             /* expected */
+    const char *what;
+};
+
+static const struct judge_attempt judge_attempts[] = {
+    { PL022_DONE,          2, TI_CYCLES,     TI_CYCLES, TI_WORDS, "judge, a right recording" },
+    { PL022_NOT_PERMITTED, 1, TI_CYCLES,     TI_CYCLES, 0,  "judge, CPSR 1" },
+    { PL022_TOO_LONG,      2, PL022_JUDGE_CYCLES + 1, TI_CYCLES, 0, "judge, 65,537 cycles" },
+    { PL022_NO_MATCH,      2, TI_CYCLES,     9,         9,  "judge, FSS LOW in cycle 9" },
+    { PL022_NO_MATCH,      2, TI_CYCLES - 1, TI_CYCLES, 17, "judge, the last cycle missing" },
+    { PL022_NO_MATCH,      2, TI_CYCLES + 1, TI_CYCLES, 18, "judge, a cycle too many" },
 };
 
 static void run_cycle(struct port *port)
@@ -250,6 +274,33 @@ static void show_text(const struct text_attempt *attempt)
     show_answer(attempt->what, refusal, attempt->refusal, beside, unchanged);
 }
 
+/* Unlike any other refusal 21 comes with a count: the leading cycles that some words could give. */
+static void show_judge(const struct judge_attempt *attempt)
+{
+    static uint8_t recording[PL022_JUDGE_CYCLES + 1];
+    static const uint16_t sent[PL022_QUEUE_WORDS] = { 0xA, 5 };
+    uint16_t words[PL022_QUEUE_WORDS], before[PL022_QUEUE_WORDS];
+
+    memset(recording, 0, sizeof recording);
+    memcpy(recording, ti_recording, sizeof ti_recording);
+    if (attempt->changed < TI_CYCLES)
+        recording[attempt->changed] ^= PL022_FSS;
+    memset(words, 0xEE, sizeof words);
+    memcpy(before, words, sizeof before);
+    struct pl022_count judged = pl022_judge(PL022_CR0_FRF_TI | 3u << PL022_CR0_DSS_SHIFT, attempt->cpsr,
+                                            recording, attempt->cycles, words);
+    bool unchanged = memcmp(words, before, sizeof words) == 0;
+    printf("  %-41s %2" PRIu64 " with %" PRIu64 ", %s\n", attempt->what, judged.refusal, judged.count,
+           refusal_text((uint32_t)judged.refusal));
+    bool expected = judged.refusal == PL022_DONE ? memcmp(words, sent, sizeof words) == 0 : unchanged;
+    if (judged.refusal != attempt->refusal || judged.count != attempt->count || !expected) {
+        fflush(stdout);
+        fprintf(stderr, "board: %s: expected %" PRIu32 " with %" PRIu64 "\n", attempt->what,
+                attempt->refusal, attempt->count);
+        exit(EXIT_FAILURE);
+    }
+}
+
 /* The change that was refused with 5 above, in the order that is accepted. */
 static void show_right_order(void)
 {
@@ -297,13 +348,16 @@ unsigned show_refusals(void)
 {
     unsigned count = sizeof attempts / sizeof attempts[0];
     unsigned text_count = sizeof text_attempts / sizeof text_attempts[0];
+    unsigned judge_count = sizeof judge_attempts / sizeof judge_attempts[0];
 
     printf("Refusals, provoked on purpose\n");
     for (unsigned i = 0; i < count; i++)
         show(&attempts[i]);
     for (unsigned i = 0; i < text_count; i++)
         show_text(&text_attempts[i]);
+    for (unsigned i = 0; i < judge_count; i++)
+        show_judge(&judge_attempts[i]);
     show_right_order();
     show_frame_end();
-    return count + text_count;
+    return count + text_count + judge_count - 1; /* one recording is a right one */
 }

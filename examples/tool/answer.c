@@ -49,7 +49,7 @@ static enum answer_status answer_run(const struct command *command, struct bench
     const struct recording *recording = &bench->recording[command->device];
     bool to_idle = command->verb == VERB_IDLE;
     uint64_t refusal;
-    if (!bench_run(bench, command->device, command->input, command->cycles, to_idle, &refusal)) {
+    if (!bench_run(bench, command->device, command->digits, command->cycles, to_idle, &refusal)) {
         return ANSWER_NO_MEMORY;
     }
     fprintf(out, "%" PRIu64 " ", refusal);
@@ -77,6 +77,27 @@ static enum answer_status answer_pair(const struct command *command, struct benc
     return ANSWER_GIVEN;
 }
 
+void answer_words(const uint16_t *words, size_t count, FILE *out)
+{
+    for (size_t n = 0; n < count; n++) {
+        fprintf(out, n == 0 ? "%x" : ",%x", words[n]);
+    }
+}
+
+static void answer_judge(const struct command *command, FILE *out)
+{
+    uint16_t words[PL022_QUEUE_WORDS];
+    struct pl022_count judged = pl022_judge(command->cr0, command->cpsr, command->digits,
+                                            command->cycles, words);
+    fprintf(out, "%" PRIu64 " %" PRIu64 " ", judged.refusal, judged.count);
+    if (judged.refusal == PL022_DONE) {
+        answer_words(words, PL022_QUEUE_WORDS, out);
+    } else {
+        putc('-', out);
+    }
+    putc('\n', out);
+}
+
 enum answer_status answer(const struct command *command, struct bench *bench, FILE *out)
 {
     uint8_t *record = bench->record[command->device];
@@ -102,6 +123,9 @@ enum answer_status answer(const struct command *command, struct bench *bench, FI
         return answer_pair(command, bench, out);
     case VERB_DUMP:
         put_dump(out, record);
+        break;
+    case VERB_JUDGE:
+        answer_judge(command, out);
         break;
     }
     return ANSWER_GIVEN;

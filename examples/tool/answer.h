@@ -16,6 +16,9 @@ enum answer_status { ANSWER_GIVEN, ANSWER_NO_MEMORY, ANSWER_PAIR_REFUSED };
  */
 enum answer_status answer(const struct command *command, struct bench *bench, FILE *out);
 
+/* Prints words as an answer shows them, hexadecimal, with commas between. */
+void answer_words(const uint16_t *words, size_t count, FILE *out);
+
 /* Prints a line for each device that lost words in this command. */
 void answer_lost(const struct bench *bench, FILE *out);
 

@@ -6,17 +6,13 @@
 #include <string.h>
 
 #include "bench.h"
+#include "word.h"
 
-enum { MOST_WORDS = 4, NOT_A_DIGIT = 16 };
+enum { MOST_WORDS = 4 };
 
 struct word {
     char *text;
     size_t length;
-};
-
-/* A word as a message shows it: cut short, and without bytes that upset a terminal. */
-struct quoted {
-    char text[28];
 };
 
 static const struct form {
@@ -33,6 +29,7 @@ static const struct form {
     {"idle", VERB_IDLE, 3, 3, "idle D INPUTS"},
     {"pair", VERB_PAIR, 2, 2, "pair N"},
     {"dump", VERB_DUMP, 2, 2, "dump D"},
+    {"judge", VERB_JUDGE, 4, 4, "judge CR0 CPSR DIGITS"},
 };
 
 static bool is_blank(char byte)
@@ -42,15 +39,7 @@ static bool is_blank(char byte)
 
 static struct quoted quote(const struct word *word)
 {
-    enum { SHOWN = 24 };
-    struct quoted quoted;
-    size_t n = 0;
-    for (; n < word->length && n < SHOWN; n++) {
-        char byte = word->text[n];
-        quoted.text[n] = byte > ' ' && byte < 127 ? byte : '?';
-    }
-    strcpy(quoted.text + n, word->length > SHOWN ? "..." : "");
-    return quoted;
+    return word_quote(word->text, word->length);
 }
 
 /* Always false, so that a check can return it. */
@@ -84,26 +73,11 @@ static size_t split(char *line, size_t length, struct word words[MOST_WORDS])
     return count;
 }
 
-/* Plain comparisons: what counts as a digit must not depend on the locale. */
-static unsigned digit_value(char byte)
-{
-    if (byte >= '0' && byte <= '9') {
-        return (unsigned)(byte - '0');
-    }
-    if (byte >= 'a' && byte <= 'f') {
-        return (unsigned)(byte - 'a') + 10U;
-    }
-    if (byte >= 'A' && byte <= 'F') {
-        return (unsigned)(byte - 'A') + 10U;
-    }
-    return NOT_A_DIGIT;
-}
-
 /* The place of the first byte that is no digit of the base, or the word's length. */
 static size_t digits(const struct word *word, unsigned base)
 {
     size_t n = 0;
-    while (n < word->length && digit_value(word->text[n]) < base) {
+    while (n < word->length && word_digit(word->text[n]) < base) {
         n++;
     }
     return n;
@@ -126,15 +100,12 @@ static bool parse_hex(const char *what, const struct word *word, uint32_t *numbe
                         "%s '%s' is not hexadecimal: expected digits 0 to 9 and a to f, "
                         "no prefix and no sign", what, quote(word).text);
     }
-    uint32_t sum = 0;
-    for (size_t n = 0; n < word->length; n++) {
-        if (sum > UINT32_MAX >> 4) {
-            return complain(complaint, "%s '%s' is above 32 bits: expected ffffffff or less",
-                            what, quote(word).text);
-        }
-        sum = sum << 4 | digit_value(word->text[n]);
+    uint64_t sum;
+    if (!word_number(word->text, word->length, 16, UINT32_MAX, &sum)) {
+        return complain(complaint, "%s '%s' is above 32 bits: expected ffffffff or less",
+                        what, quote(word).text);
     }
-    *number = sum;
+    *number = (uint32_t)sum;
     return true;
 }
 
@@ -151,22 +122,22 @@ static bool parse_cycles(const struct word *word, size_t *cycles, struct complai
                         "number of cycles '%s' is not decimal: expected digits 0 to 9, no sign",
                         quote(word).text);
     }
-    size_t sum = 0;
-    for (size_t n = 0; n < word->length; n++) {
-        sum = sum * 10 + digit_value(word->text[n]);
-        if (sum > MOST_CYCLES) {
-            return too_many_cycles(complaint);
-        }
+    uint64_t sum;
+    if (!word_number(word->text, word->length, 10, MOST_CYCLES, &sum)) {
+        return too_many_cycles(complaint);
     }
-    *cycles = sum;
+    *cycles = (size_t)sum;
     return true;
 }
 
-/* Digits above 7 pass: refusing them is the library's part. */
+/*
+ * Digits above 7 pass, and recordings too long to be judged: refusing them is the library's
+ * part.
+ */
 static bool parse_recording(const struct word *word, struct command *command,
                             struct complaint *complaint)
 {
-    uint8_t *input = (uint8_t *)word->text;
+    uint8_t *bytes = (uint8_t *)word->text;
     bool none = word->length == 1 && word->text[0] == '-';
     size_t cycles = none ? 0 : word->length;
     size_t good = none ? 0 : digits(word, 16);
@@ -180,9 +151,9 @@ static bool parse_recording(const struct word *word, struct command *command,
         return too_many_cycles(complaint);
     }
     for (size_t n = 0; n < cycles; n++) {
-        input[n] = (uint8_t)digit_value(word->text[n]);
+        bytes[n] = (uint8_t)word_digit(word->text[n]);
     }
-    command->input = input;
+    command->digits = bytes;
     command->cycles = cycles;
     return true;
 }
@@ -204,6 +175,11 @@ static bool parse_words(const struct word *words, struct command *command,
 {
     if (command->verb == VERB_PAIR) {
         return parse_cycles(&words[1], &command->cycles, complaint);
+    }
+    if (command->verb == VERB_JUDGE) {
+        return parse_hex("CR0", &words[1], &command->cr0, complaint)
+            && parse_hex("CPSR", &words[2], &command->cpsr, complaint)
+            && parse_recording(&words[3], command, complaint);
     }
     if (!parse_device(&words[1], &command->device, complaint)) {
         return false;
@@ -236,7 +212,7 @@ enum parse_status command_parse(char *line, size_t length, struct command *comma
     const struct form *form = find_form(&words[0]);
     if (form == NULL) {
         complain(complaint,
-                 "unknown command '%s': expected reset, r, w, run, idle, pair or dump",
+                 "unknown command '%s': expected reset, r, w, run, idle, pair, dump or judge",
                  quote(&words[0]).text);
         return PARSE_BAD;
     }

@@ -132,11 +132,16 @@ static void draw_block(const struct strokes *strokes, const struct part *parts, 
     }
 }
 
+static const struct strokes *strokes_of(const struct diagram *diagram)
+{
+    return diagram->ascii ? &ascii_strokes : &unicode_strokes;
+}
+
 /* One part or more, all of as many cycles. */
 static void draw_parts(const struct diagram *diagram, const struct part *parts, size_t count,
                        uint64_t time, FILE *out)
 {
-    const struct strokes *strokes = diagram->ascii ? &ascii_strokes : &unicode_strokes;
+    const struct strokes *strokes = strokes_of(diagram);
     size_t cycles = parts[0].recording->cycles;
     size_t step = cycles_in_block(diagram->columns);
     fprintf(out, "  time %" PRIu64 ", %zu cycle%s\n", time, cycles, cycles == 1 ? "" : "s");
@@ -170,4 +175,27 @@ void diagram_draw_recording(const struct diagram *diagram, const struct recordin
 {
     const struct part part = {.label = "", .recording = recording};
     draw_parts(diagram, &part, 1, time, out);
+}
+
+void diagram_draw_from(const struct diagram *diagram, const struct recording *recording,
+                       size_t cycle, FILE *out)
+{
+    const struct part part = {.label = "", .recording = recording};
+    size_t step = cycles_in_block(diagram->columns);
+    size_t left = recording->cycles - cycle;
+    if (left > 0) {
+        draw_block(strokes_of(diagram), &part, 1, cycle, cycle + (left < step ? left : step), out);
+    }
+}
+
+void diagram_draw_around(const struct diagram *diagram, const struct recording *recording,
+                         size_t cycle, FILE *out)
+{
+    size_t before = cycles_in_block(diagram->columns) / 2;
+    size_t first = cycle < before ? 0 : cycle - before;
+    first -= first % RULER_STEP;
+    if (recording->cycles > 0) {
+        diagram_draw_from(diagram, recording, first, out);
+        fprintf(out, "%*s\n", (int)(LABEL_COLUMNS + CYCLE_COLUMNS * (cycle - first + 1)), "^^");
+    }
 }

@@ -28,4 +28,16 @@ void diagram_draw(const struct diagram *diagram, const struct bench *bench, uint
 void diagram_draw_recording(const struct diagram *diagram, const struct recording *recording,
                             uint64_t time, FILE *out);
 
+/*
+ * Draws as many cycles of a recording as fit into the width, some before and some behind the
+ * given one, which a row below the others marks. It may be the cycle behind the last. The
+ * numbers above the rows are those of the recording's cycles; nothing is drawn if it has none.
+ */
+void diagram_draw_around(const struct diagram *diagram, const struct recording *recording,
+                         size_t cycle, FILE *out);
+
+/* The same from a cycle on, without a mark. */
+void diagram_draw_from(const struct diagram *diagram, const struct recording *recording,
+                       size_t cycle, FILE *out);
+
 #endif

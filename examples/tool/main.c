@@ -1,6 +1,7 @@
 /*
  * pl022: runs a script of register accesses and cycles on two models of the PL022
- * serial port, or draws a recording. docs/SCRIPTS.md describes the scripts and the switches.
+ * serial port; or draws, judges or compares recordings. docs/SCRIPTS.md describes the
+ * scripts and the options.
  */
 #include <errno.h>
 #include <inttypes.h>
@@ -11,6 +12,8 @@
 #include "bench.h"
 #include "command.h"
 #include "diagram.h"
+#include "files.h"
+#include "judge.h"
 #include "options.h"
 #include "recorder.h"
 #include "script.h"
@@ -31,7 +34,7 @@ struct session {
 
 static enum status bad_script(const struct session *session, const char *message)
 {
-    fprintf(stderr, "pl022: %s:%lu: %s\n", options_input_name(session->options),
+    fprintf(stderr, "pl022: %s:%lu: %s\n", files_input_name(session->options->input[0]),
             session->script.number, message);
     return STATUS_WRONG;
 }
@@ -54,7 +57,7 @@ static enum status flush_answers(void)
     if (fflush(stdout) == 0 && !ferror(stdout)) {
         return STATUS_DONE;
     }
-    options_file_message("standard output", errno);
+    files_message("standard output", errno);
     return STATUS_FILES;
 }
 
@@ -133,7 +136,7 @@ static enum status run_script(struct session *session)
         case SCRIPT_LINE_TOO_LONG:
             return line_too_long(session);
         case SCRIPT_FAILED:
-            options_file_message(options_input_name(session->options), errno);
+            files_message(files_input_name(session->options->input[0]), errno);
             return STATUS_FILES;
         case SCRIPT_END:
             return STATUS_DONE;
@@ -148,7 +151,7 @@ static enum status end_vcd(struct session *session)
     }
     vcd_end(&session->vcd);
     if (session->vcd.error != 0) {
-        options_file_message(session->options->output[OUTPUT_VCD], session->vcd.error);
+        files_message(session->options->output[OUTPUT_VCD], session->vcd.error);
         return STATUS_FILES;
     }
     return STATUS_DONE;
@@ -168,7 +171,7 @@ static enum status end_text(struct session *session)
         return STATUS_FILES;
     }
     if (recorder->error != 0) {
-        options_file_message(name, recorder->error);
+        files_message(name, recorder->error);
         return STATUS_FILES;
     }
     return STATUS_DONE;
@@ -178,7 +181,7 @@ static enum status end_text(struct session *session)
 static enum status run_session(struct session *session)
 {
     FILE *files[OUTPUTS];
-    if (!options_open_outputs(session->options, session->script.file, files)) {
+    if (!files_open_outputs(session->options->output, session->script.file, files)) {
         return STATUS_FILES;
     }
     bench_begin(&session->bench);
@@ -195,12 +198,17 @@ static enum status run_session(struct session *session)
     return ended ? status : STATUS_FILES;
 }
 
+static struct diagram diagram_wanted(const struct options *options)
+{
+    return (struct diagram){.ascii = options->ascii, .columns = diagram_columns()};
+}
+
 static enum status answer_script(const struct options *options, FILE *script)
 {
     struct session session = {
         .options = options,
         .script = {.file = script},
-        .diagram = {.ascii = options->ascii, .columns = diagram_columns()},
+        .diagram = diagram_wanted(options),
     };
     enum status status = run_session(&session);
     script_free(&session.script);
@@ -210,15 +218,36 @@ static enum status answer_script(const struct options *options, FILE *script)
 
 static enum status draw_text(const struct options *options, FILE *file)
 {
-    struct diagram diagram = {.ascii = options->ascii, .columns = diagram_columns()};
-    enum status status = text_draw(file, options_input_name(options), &diagram, stdout);
+    struct diagram diagram = diagram_wanted(options);
+    enum status status = text_draw(file, files_input_name(options->input[0]), &diagram, stdout);
     return status == STATUS_DONE ? flush_answers() : status;
+}
+
+static enum status read_input(const struct options *options)
+{
+    FILE *file = files_open_input(options->input[0]);
+    if (file == NULL) {
+        return STATUS_FILES;
+    }
+    enum status status = options->task == TASK_TEXT ? draw_text(options, file)
+                                                    : answer_script(options, file);
+    files_close_input(file);
+    return status;
+}
+
+static enum verdict give_verdict(const struct options *options)
+{
+    struct diagram diagram = diagram_wanted(options);
+    enum verdict verdict = options->task == TASK_JUDGE
+                         ? judge_recording(options, &diagram, stdout)
+                         : judge_difference(options, &diagram, stdout);
+    return flush_answers() == STATUS_DONE ? verdict : VERDICT_TROUBLE;
 }
 
 int main(int count, char **words)
 {
     struct options options;
-    options_hold_descriptors();
+    files_hold_descriptors();
     /* A reader that went away is a failed write with a status, not a signal. */
     signal(SIGPIPE, SIG_IGN);
     if (!options_parse(&options, count, words)) {
@@ -229,14 +258,6 @@ int main(int count, char **words)
         options_usage(stdout);
         return (int)flush_answers();
     }
-    FILE *file = options_open_input(&options);
-    if (file == NULL) {
-        return STATUS_FILES;
-    }
-    enum status status = options.draws_text ? draw_text(&options, file)
-                                            : answer_script(&options, file);
-    if (file != stdin) {
-        fclose(file);
-    }
-    return (int)status;
+    bool judges = options.task == TASK_JUDGE || options.task == TASK_DIFFERENCE;
+    return judges ? (int)give_verdict(&options) : (int)read_input(&options);
 }

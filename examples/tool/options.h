@@ -1,58 +1,39 @@
-/* options.h: the command line, and the files it names. */
+/* options.h: the command line. */
 #ifndef OPTIONS_H
 #define OPTIONS_H
 
 #include <stdbool.h>
+#include <stdint.h>
 #include <stdio.h>
 
-/* The tool's exit statuses. */
+#include "files.h"
+#include "vcd_read.h"
+
+/* The tool's exit statuses, but for those of judge and difference. */
 enum status { STATUS_DONE = 0, STATUS_FILES = 1, STATUS_WRONG = 2 };
 
-/* The files that a script's cycles are written to. */
-enum output { OUTPUT_VCD, OUTPUT_TEXT, OUTPUTS };
+/* What the tool is asked to do. */
+enum task { TASK_SCRIPT, TASK_TEXT, TASK_JUDGE, TASK_DIFFERENCE, TASKS };
+
+enum { MOST_INPUTS = 2 };
 
 struct options {
+    enum task task;
     bool help;
     bool lost;
     bool diagram;
     bool ascii;
-    bool draws_text;             /* the input is a text to be drawn, not a script */
-    const char *output[OUTPUTS]; /* file names, or NULL */
-    const char *input;           /* file name, or NULL for standard input */
+    const char *output[OUTPUTS];        /* file names, or NULL */
+    const char *input[MOST_INPUTS];     /* file names, or NULL for standard input */
+    uint32_t cr0;                       /* judge */
+    uint32_t cpsr;                      /* judge */
+    struct vcd_choice vcd[MOST_INPUTS]; /* what to take from each input that is a dump */
+    const char *vcd_option;             /* an option that says so and was given, or NULL */
 };
 
 /* False after a message with the usage on standard error. */
 bool options_parse(struct options *options, int count, char **words);
 
 void options_usage(FILE *out);
-
-/*
- * Gives each closed standard descriptor to a file on which its use fails. Otherwise the
- * next file opened would take its number, and answers could end up in the dump.
- */
-void options_hold_descriptors(void);
-
-/* The name of the script or text in messages. */
-const char *options_input_name(const struct options *options);
-
-/* NULL after a message. */
-FILE *options_open_input(const struct options *options);
-
-/*
- * Opens the files that are named for writing, and leaves NULL for the others. False after
- * a message, also when a file is the script, receives the answers or is named twice:
- * writing would destroy what is in it. Then no file that was there is changed; one that
- * was missing may stay, empty.
- */
-bool options_open_outputs(const struct options *options, FILE *script, FILE *files[OUTPUTS]);
-
-/* Prints a message about a file and the reason, an errno value; 0 if none was left. */
-void options_file_message(const char *name, int reason);
-
-/*
- * Keeps errno, EIO if none was left, as the reason of a failed write. Only the first failure
- * is kept: it names the cause, later ones follow from it.
- */
-void options_keep_error(int *error);
 
 #endif

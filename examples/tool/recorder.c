@@ -3,7 +3,7 @@
 #include <errno.h>
 #include <string.h>
 
-#include "options.h"
+#include "files.h"
 
 void recorder_begin(struct recorder *recorder, FILE *file)
 {
@@ -102,7 +102,7 @@ static void write_track(struct recorder *recorder)
     recorder->refusal = written.refusal;
     errno = 0;
     if (fwrite(text, 1, (size_t)written.count, recorder->file) < written.count) {
-        options_keep_error(&recorder->error);
+        files_keep_error(&recorder->error);
     }
 }
 
@@ -111,7 +111,7 @@ void recorder_end(struct recorder *recorder)
     write_track(recorder);
     errno = 0;
     if (fclose(recorder->file) != 0) {
-        options_keep_error(&recorder->error);
+        files_keep_error(&recorder->error);
     }
     recorder->file = NULL;
 }

@@ -3,8 +3,8 @@
 #
 # OTHER is a program that reads the commands of a script on standard input and gives the
 # same answers, with --text FILE the same text and with --lost the same lines of lost words;
-# if it is given, both are compared as well. VECTORS in the environment may name a folder of scripts NN.in with their answers
-# NN.out.
+# if it is given, both are compared as well. VECTORS in the environment may name folders, with
+# blanks between them, of scripts NN.in with their answers NN.out.
 set -eu
 LC_ALL=C
 export LC_ALL
@@ -488,8 +488,8 @@ slave slave_microwire aaaaaaaaaaaaaaaaaaaaaaaaaaaaaaaaaaaaaaaa6666222222226666aa
 # ---------------------------------------------------------------- vectors
 
 vectors=0
-if [ -n "${VECTORS-}" ] && [ -d "$VECTORS" ]; then
-    for script in "$VECTORS"/*.in; do
+for folder in ${VECTORS-}; do
+    for script in "$folder"/*.in; do
         [ -e "$script" ] || continue
         run "$script"
         check "vector $script" same "${script%.in}.out" "$dir/out"
@@ -500,7 +500,7 @@ if [ -n "${VECTORS-}" ] && [ -d "$VECTORS" ]; then
         like_other "vector $script" "$script" "${script%.in}.out"
         vectors=$((vectors + 1))
     done
-fi
+done
 
 # ---------------------------------------------------------------- the language and the pictures
 
@@ -1225,6 +1225,7 @@ run --help
 check "--help: status" equal "$status" 0
 check "--help: text" grep -q '^usage: pl022 ' "$dir/out"
 check "--help: --lost" grep -q '^  --lost ' "$dir/out"
+check "--help: judge" grep -q '^       pl022 judge --cr0 X --cpsr X ' "$dir/out"
 cp "$scripts/p1.txt" "$dir/--ascii"
 status=0
 (cd "$dir" && "$tool_path" -- --ascii) >"$dir/out" 2>"$dir/err" || status=$?
@@ -1349,6 +1350,10 @@ if [ -c /dev/full ]; then
     fails "full dump of a bad script"
 fi
 
+# ---------------------------------------------------------------- judge, difference
+
+. "$(dirname "$0")/test_judge.sh"
+
 # ---------------------------------------------------------------- fuzz
 
 # Scripts of valid commands, and the same with some bytes or words changed. The random
@@ -1388,7 +1393,15 @@ function setting(d, kind) {
 function set_up(d) {
     return "w " d " 10 2\nw " d " 0 " pick(formats) "\nw " d " 4 " pick("2 6 6 6 e")
 }
+# A right recording of four bits, or a part of it, with the settings of one.
+function judging(digits, at) {
+    digits = pick("0450145010aa 0541054100aa ba54105410 ba5410543210541054 450145010145014589898989898aa")
+    at = random(length(digits) + 1)
+    if (random(3) == 0) digits = substr(digits, 1, at) recording(1 + random(9)) substr(digits, at + 2)
+    return "judge " pick("3 83 13 13 23 43 2 33 10013") " " pick("2 2 2 3 4 1 102") " " digits
+}
 function command(d, kind) {
+    if (random(30) == 0) return judging()
     d = random(2)
     kind = random(20)
     if (kind < 7) return setting(d)
@@ -1525,7 +1538,9 @@ check "many words were lost" [ "$lost" -ge 300 ]
 echo "tool: $checks checks, $failures failed;" \
     "5 recordings, $vectors vectors, $bad_scripts bad scripts, $lines scripts with known text," \
     "$drawings drawn texts, $refused refused ones, $overruns scripts with known lost words," \
-    "$lost lost lines, $files file failures," \
+    "$lost lost lines, $own own recordings judged, $judged files accepted, $verdicts refused," \
+    "$compared_texts differences, $troubles files that are no recording, $damaged damaged dumps," \
+    "$files file failures," \
     "$fuzz fuzzed scripts (seed $seed), $(wc -l <"$dir/all" | tr -d ' ') valid commands," \
     "$compared compared with another program"
 [ "$failures" -eq 0 ]

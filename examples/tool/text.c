@@ -3,16 +3,6 @@
 #include <errno.h>
 #include <inttypes.h>
 
-/* A longer text is refused within this many bytes, so that no more need be read. */
-enum { MOST_BYTES = PL022_TEXT_LENGTH + 1 };
-
-struct text {
-    uint8_t bytes[MOST_BYTES];
-    size_t length;
-    uint8_t lines[PL022_TEXT_CYCLES];
-    uint32_t starts[PL022_TEXT_CYCLES];
-};
-
 const char *text_refusal(uint64_t refusal)
 {
     switch (refusal) {
@@ -59,7 +49,7 @@ static size_t deciding_place(struct text *text, uint64_t refusal)
     return without;
 }
 
-static void complain(struct text *text, const char *name, uint64_t refusal)
+static void complain(struct text *text, const char *name, uint64_t refusal, const char *words)
 {
     size_t place = deciding_place(text, refusal);
     size_t line = 1;
@@ -68,8 +58,8 @@ static void complain(struct text *text, const char *name, uint64_t refusal)
         line += text->bytes[n] == '\n';
         column = text->bytes[n] == '\n' ? 1 : column + 1;
     }
-    fprintf(stderr, "pl022: %s:%zu:%zu: refused with %" PRIu64 ": %s\n", name, line, column,
-            refusal, text_refusal(refusal));
+    fprintf(stderr, "pl022: %s:%zu:%zu: refused with %" PRIu64 ": %s%s\n", name, line, column,
+            refusal, text_refusal(refusal), words);
 }
 
 /* The first edge of a line is drawn against the line before; the first of all has none. */
@@ -88,17 +78,33 @@ static void draw_lines(struct text *text, const struct pl022_text *read,
     }
 }
 
+bool text_load(struct text *text, FILE *file, const char *name)
+{
+    text->length = fread(text->bytes, 1, sizeof text->bytes, file);
+    if (ferror(file)) {
+        files_message(name, errno);
+        return false;
+    }
+    return true;
+}
+
+struct pl022_text text_read(struct text *text, const char *name, const char *words)
+{
+    struct pl022_text read = read_beginning(text, text->length);
+    if (read.refusal != PL022_DONE) {
+        complain(text, name, read.refusal, words);
+    }
+    return read;
+}
+
 enum status text_draw(FILE *file, const char *name, const struct diagram *diagram, FILE *out)
 {
     struct text text;
-    text.length = fread(text.bytes, 1, sizeof text.bytes, file);
-    if (ferror(file)) {
-        options_file_message(name, errno);
+    if (!text_load(&text, file, name)) {
         return STATUS_FILES;
     }
-    struct pl022_text read = read_beginning(&text, text.length);
+    struct pl022_text read = text_read(&text, name, "");
     if (read.refusal != PL022_DONE) {
-        complain(&text, name, read.refusal);
         return STATUS_WRONG;
     }
     errno = 0;

@@ -3,7 +3,7 @@
 #include <inttypes.h>
 #include <stdarg.h>
 
-#include "options.h"
+#include "files.h"
 
 static const struct wire {
     const char *name;
@@ -28,7 +28,7 @@ static void put(struct vcd *vcd, const char *format, ...)
     va_list arguments;
     va_start(arguments, format);
     if (vfprintf(vcd->file, format, arguments) < 0) {
-        options_keep_error(&vcd->error);
+        files_keep_error(&vcd->error);
     }
     va_end(arguments);
 }
@@ -126,7 +126,7 @@ void vcd_end(struct vcd *vcd)
         put(vcd, "#%" PRIu64 "\n", vcd->time);
     }
     if (fclose(vcd->file) != 0) {
-        options_keep_error(&vcd->error);
+        files_keep_error(&vcd->error);
     }
     vcd->file = NULL;
 }

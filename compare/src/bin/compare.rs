@@ -1,6 +1,7 @@
 //! Compares the second program with the proved one, call by call.
 
 use compare::bench::{Bench, Counts, Step};
+use compare::cases::random_judge::RECORDINGS;
 use compare::cases::random_text::TEXTS;
 use compare::cases::{self, Plan};
 use compare::command::Command;
@@ -14,18 +15,20 @@ use std::process::ExitCode;
 use std::time::Duration;
 
 const USAGE: &str = "usage: compare [--self | --fault N]
-               [--rounds N | --texts N] [--least N] [--least-texts N] [--least-lost N]
-               [--seconds N] [--seed HEX] [--trace FILE]
+               [--rounds N | --texts N | --judged N] [--least N] [--least-texts N]
+               [--least-lost N] [--least-judged N] [--seconds N] [--seed HEX] [--trace FILE]
        compare [--self | --fault N] --replay < script";
 
 const SEED: u64 = 0x0022_5EED;
+
+type Run = fn(&mut Bench, &Plan) -> Step<u64>;
 
 struct Arguments {
     fault: Option<u32>,
     itself: bool,
     replay: bool,
-    /// Texts alone.
-    texts: bool,
+    /// All cases, or those of texts or of recordings alone.
+    run: Run,
     trace: Option<String>,
     /// Calls on devices that must have been compared.
     least: u64,
@@ -33,22 +36,31 @@ struct Arguments {
     least_texts: u64,
     /// Words that must have been lost in the calls.
     least_lost: u64,
+    /// Random recordings that must have been judged.
+    least_judged: u64,
     plan: Plan,
 }
 
+impl Arguments {
+    /// If none are given.
+    fn none() -> Arguments {
+        Arguments {
+            fault: None,
+            itself: false,
+            replay: false,
+            run: cases::run,
+            trace: None,
+            least: 0,
+            least_texts: 0,
+            least_lost: 0,
+            least_judged: 0,
+            plan: Plan { seed: SEED, rounds: 400, limit: None },
+        }
+    }
+}
+
 fn parse(words: &[String]) -> Option<Arguments> {
-    let plan = Plan { seed: SEED, rounds: 400, limit: None };
-    let mut arguments = Arguments {
-        fault: None,
-        itself: false,
-        replay: false,
-        texts: false,
-        trace: None,
-        least: 0,
-        least_texts: 0,
-        least_lost: 0,
-        plan,
-    };
+    let mut arguments = Arguments::none();
     let mut words = words.iter();
     while let Some(word) = words.next() {
         match word.as_str() {
@@ -59,11 +71,15 @@ fn parse(words: &[String]) -> Option<Arguments> {
             "--least" => arguments.least = words.next()?.parse().ok()?,
             "--least-texts" => arguments.least_texts = words.next()?.parse().ok()?,
             "--least-lost" => arguments.least_lost = words.next()?.parse().ok()?,
+            "--least-judged" => arguments.least_judged = words.next()?.parse().ok()?,
             "--rounds" => arguments.plan.rounds = words.next()?.parse().ok()?,
             "--texts" => {
-                let texts: u64 = words.next()?.parse().ok()?;
-                arguments.texts = true;
-                arguments.plan.rounds = texts.div_ceil(TEXTS);
+                arguments.run = cases::run_texts;
+                arguments.plan.rounds = words.next()?.parse::<u64>().ok()?.div_ceil(TEXTS);
+            }
+            "--judged" => {
+                arguments.run = cases::run_judge_alone;
+                arguments.plan.rounds = words.next()?.parse::<u64>().ok()?.div_ceil(RECORDINGS);
             }
             "--seconds" => {
                 let seconds = words.next()?.parse().ok()?;
@@ -138,14 +154,12 @@ fn main() -> ExitCode {
         return replay(other.as_ref());
     }
     let plan = arguments.plan;
-    let of_texts = if arguments.texts { format!(" of {TEXTS} texts") } else { String::new() };
-    println!("compare: seed {:x}, {} rounds{of_texts}", plan.seed, plan.rounds);
+    println!("compare: seed {:x}, {} rounds", plan.seed, plan.rounds);
     let mut bench = Bench::new(&Second, other.as_ref());
     if let Some(path) = &arguments.trace {
         bench.trace = File::create(path).ok();
     }
-    let run = if arguments.texts { cases::run_texts } else { cases::run };
-    let outcome = run(&mut bench, &plan);
+    let outcome = (arguments.run)(&mut bench, &plan);
     report(outcome, &bench.counts, &arguments)
 }
 
@@ -153,6 +167,7 @@ fn report(outcome: Step<u64>, counts: &Counts, arguments: &Arguments) -> ExitCod
     let texts = counts.texts();
     match outcome {
         Ok(done) => {
+            println!("compare: {}", counts.verdicts);
             println!("compare: {}", counts.overruns);
             println!("compare: {}", counts.stopped);
             println!("compare: {texts}");
@@ -174,6 +189,7 @@ fn is_enough(counts: &Counts, arguments: &Arguments) -> bool {
         ("calls on devices", counts.calls(), arguments.least),
         ("random texts", counts.random_texts, arguments.least_texts),
         ("lost words", counts.overruns.words(), arguments.least_lost),
+        ("random recordings judged", counts.verdicts.random, arguments.least_judged),
     ];
     let mut enough = true;
     for (what, count, least) in limits {

@@ -4,12 +4,15 @@ mod accesses;
 pub mod bits;
 mod buffers;
 mod damage;
+pub mod difference;
 mod editions;
 mod engine;
 mod forged;
 pub mod full;
+pub mod judge;
 mod lost;
 mod pairs;
+pub mod random_judge;
 pub mod random_text;
 mod settings;
 mod slow;
@@ -83,13 +86,20 @@ const EDITION_CASES: [Entry; 7] = [
 const LOST_CASES: [Entry; 2] =
     [("lost words", lost::alone, 1), ("lost words in a pair", lost::pairs, 1)];
 
+/// Recordings that are judged, and pairs of them.
+const JUDGE_CASES: [Entry; 2] =
+    [("verdicts", random_judge::recordings, 1), ("differences", difference::random, 1)];
+const FIXED_JUDGE_CASES: [Entry; 2] =
+    [("fixed differences", difference::fixed, ONCE), ("fixed verdicts", judge::fixed, ONCE)];
+
 /// They need no device.
 const TEXT_CASES: [Entry; 2] =
     [("fixed texts", text::fixed, ONCE), ("random texts", random_text::texts, 1)];
 
 pub fn run(bench: &mut Bench, plan: &Plan) -> Step<u64> {
-    let cases = [&EDITION_CASES[..], &LOST_CASES, &CASES, &TEXT_CASES, &FIXED_CASES];
-    run_cases(bench, plan, &cases.concat())
+    let random = [&EDITION_CASES[..], &LOST_CASES, &JUDGE_CASES, &CASES, &TEXT_CASES];
+    let fixed = [&FIXED_CASES[..], &FIXED_JUDGE_CASES];
+    run_cases(bench, plan, &[random.concat(), fixed.concat()].concat())
 }
 
 /// The random cases that find most frames with SSE clear.
@@ -100,6 +110,16 @@ pub fn run_editions(bench: &mut Bench, plan: &Plan) -> Step<u64> {
 /// The random cases that lose most words.
 pub fn run_lost(bench: &mut Bench, plan: &Plan) -> Step<u64> {
     run_cases(bench, plan, &[&LOST_CASES[..], &[ARRIVALS]].concat())
+}
+
+/// The random recordings that are judged.
+pub fn run_judge(bench: &mut Bench, plan: &Plan) -> Step<u64> {
+    run_cases(bench, plan, &JUDGE_CASES)
+}
+
+/// All recordings that are judged, and no other case.
+pub fn run_judge_alone(bench: &mut Bench, plan: &Plan) -> Step<u64> {
+    run_cases(bench, plan, &[JUDGE_CASES, FIXED_JUDGE_CASES].concat())
 }
 
 /// The cases of texts alone.

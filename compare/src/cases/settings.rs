@@ -31,7 +31,7 @@ pub fn idle(bench: &mut Bench, device: usize, input: Vec<u8>) -> Step<Outcome> {
 }
 
 /// CPSR and SCR for a slot of h cycles, where h has such factors.
-fn factors(random: &mut Random, h: u32) -> (u32, u32) {
+pub fn factors(random: &mut Random, h: u32) -> (u32, u32) {
     let choices: Vec<u32> = (1..=127).filter(|half| h % half == 0 && h / half <= 256).collect();
     let half = choices.get(random.size(choices.len())).copied().unwrap_or(1);
     (2 * half, (h / half - 1).min(255))

@@ -75,7 +75,7 @@ fn read_about(bench: &mut Bench, text: &[u8]) -> Step<()> {
 }
 
 /// Every list of these items, up to a length.
-fn every_list<T: Copy>(items: &[T], longest: usize) -> Vec<Vec<T>> {
+pub fn every_list<T: Copy>(items: &[T], longest: usize) -> Vec<Vec<T>> {
     let mut lists = vec![Vec::new()];
     let mut from = 0;
     for _ in 0..longest {

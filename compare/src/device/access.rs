@@ -24,6 +24,8 @@ pub mod refusal {
     pub const EMPTY_LINE: u32 = 18;
     pub const NO_LINE_FEED: u32 = 19;
     pub const EDITION: u32 = 20;
+    pub const NO_LIST: u32 = 21;
+    pub const TOO_LONG: u32 = 22;
 }
 
 pub mod offset {

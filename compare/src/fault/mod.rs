@@ -1,18 +1,21 @@
 //! The second program with one fault, to see that the harness finds it.
 
+mod difference;
 mod edition;
+mod judge;
 mod lost;
 mod text;
 
 use crate::device::offset::{CR1, ICR, MIS, SR};
-use crate::device::{Device, Format, Queue, DATA, FSS};
+use crate::device::{Device, Format, Queue, DATA, FSS, PLACES};
+use crate::difference::Part;
 use crate::model::{Model, Second};
 use crate::ran::{Lost, PairRan, Ran};
 use crate::record::{at, encode, sound_device, LENGTH};
 use std::cell::Cell;
 use std::ops::RangeInclusive;
 
-pub const FAULTS: u32 = 148;
+pub const FAULTS: u32 = 233;
 
 /// Those of a Microwire slave.
 pub const MICROWIRE_FAULTS: RangeInclusive<u32> = 15..=18;
@@ -31,6 +34,12 @@ pub const EDITION_FAULTS: RangeInclusive<u32> = 62..=106;
 
 /// Those of the words that runs hand up as lost.
 pub const LOST_FAULTS: RangeInclusive<u32> = 107..=147;
+
+/// Those of the judge of recordings.
+pub const JUDGE_FAULTS: RangeInclusive<u32> = 148..=206;
+
+/// Those of the difference of two recordings.
+pub const DIFFERENCE_FAULTS: RangeInclusive<u32> = 207..=232;
 
 /// Those that spoil single cycles of a run.
 fn spoils_cycles(number: u32) -> bool {
@@ -349,5 +358,22 @@ impl Model for Faulty {
 
     fn read_text(&self, text: &[u8], cycles: &mut [u8], starts: &mut [u32]) -> (u64, u64, u64) {
         text::read_text(self.number, text, cycles, starts)
+    }
+
+    fn judge(
+        &self,
+        cr0: u32,
+        cpsr: u32,
+        recording: &[u8],
+        words: &mut [u16; PLACES],
+    ) -> (u64, u64) {
+        if JUDGE_FAULTS.contains(&self.number) {
+            return judge::judge(self.number, (cr0, cpsr), recording, words);
+        }
+        Second.judge(cr0, cpsr, recording, words)
+    }
+
+    fn difference(&self, first: &[u8], second: &[u8]) -> Part {
+        difference::difference(self.number, first, second)
     }
 }

@@ -88,7 +88,7 @@ pub fn idle_on(f: Format, polarity: bool) -> Lines
 }
 
 // CLK as driven: SPO turns Motorola's clock over.
-fn clock_on(f: Format, polarity: bool, active: bool) -> bool
+pub fn clock_on(f: Format, polarity: bool, active: bool) -> bool
     ensures { λ r. ⌜ r ≡ clockOn f polarity active ⌝ }
 {
     match f {

@@ -1,7 +1,10 @@
 -- Each way out of a C call whose result is not the answer below as it stands.
-use Prim.Native.Nat.{ℕ}
-use mathlib.Core.Path.{_≡_, sym, ap, _∙_}
+use Prim.Native.Nat.{ℕ, _-_, _≤_, _<_}
+use mathlib.Core.Path.{_≡_, refl, sym, ap, _∙_, subst}
+use mathlib.Core.Bool.{Bool}
 use mathlib.Core.List.{List}
+use lib.ListN.{length}
+use Rattle.registers.specs.Choose.{pick}
 use Rattle.registers.specs.Refusals.{refusalOf, wordOf}
 use Rattle.registers.specs.declared.access.Answer.{Answer}
 use Rattle.registers.specs.declared.access.Answer.the-variants.{Word, Refused}
@@ -14,7 +17,11 @@ use Rattle.text.specs.Write.{WrittenNumbers, writtenNumbers, WriteText}
 use Rattle.text.specs.Read.{ReadingNumbers, readingNumbers, ReadText}
 use Rattle.text.specs.declared.write.Written.{Written}
 use Rattle.text.specs.declared.read.Reading.{Reading}
-use Rattle.pl022.specs.Results.{ReadResult, lostNumbers, RunResult, ranNumbers, PairResult, WriteTextResult, ReadTextResult}
+use Rattle.judge.specs.Shared.{difference}
+use Rattle.judge.specs.Judge.{Judged, verdictNumbers}
+use Rattle.judge.specs.declared.judge.Verdict.{Verdict}
+use Rattle.judge.proofs.Sharing.{start-second, start-first, part-second, part-first, is-second, is-first}
+use Rattle.pl022.specs.Results.{ReadResult, lostNumbers, RunResult, ranNumbers, PairResult, WriteTextResult, ReadTextResult, JudgeResult, DifferenceResult}
 use Rattle.pl022.specs.declared.LostResult.{LostResult}
 use Rattle.pl022.specs.declared.RanResult.{RanResult}
 
@@ -73,3 +80,31 @@ text-read text cb sb a cb′ sb′ g b q =
       cyclesLeft = g .cycles;
       startsLeft = g .starts;
     }
+
+-- Each case of a verdict.
+pub verdict-numbers : (cr0 cpsr : ℕ) (r ws : List ℕ) (v : Verdict) (ws′ : List ℕ) → Judged cr0 cpsr r ws v ws′ → (u : Verdict) → v ≡ u
+    → JudgeResult cr0 cpsr r ws (record { refusal = verdictNumbers u .refusal; count = verdictNumbers u .count }) ws′
+verdict-numbers cr0 cpsr r ws v ws′ k u e =
+    record { verdict = u; judged = subst (λ (x : Verdict). Judged cr0 cpsr r ws x ws′) e k; refusal = refl; count = refl }
+
+-- The part of two recordings that was handed back.
+module _ (xs ys part : List ℕ) (e : part ≡ difference xs ys) where
+  pub second-room : length xs < length ys → length part ≤ length ys
+  second-room l = subst (λ (p : List ℕ). length p ≤ length ys) (sym e) (part-second xs ys l)
+
+  pub first-room : length ys ≤ length xs → length part ≤ length xs
+  first-room l = subst (λ (p : List ℕ). length p ≤ length xs) (sym e) (part-first xs ys l)
+
+  pub second-part : length xs < length ys → DifferenceResult xs ys (record { second = 1; start = length ys - length part; length = length part })
+  second-part l = record {
+    which = ap (λ (b : Bool). pick b 1 0) (sym (is-second xs ys l));
+    start = ap (λ (p : List ℕ). length ys - length p) e ∙ start-second xs ys l;
+    long = ap length e;
+  }
+
+  pub first-part : length ys ≤ length xs → DifferenceResult xs ys (record { second = 0; start = length xs - length part; length = length part })
+  first-part l = record {
+    which = ap (λ (b : Bool). pick b 1 0) (sym (is-first xs ys l));
+    start = ap (λ (p : List ℕ). length xs - length p) e ∙ start-first xs ys l;
+    long = ap length e;
+  }

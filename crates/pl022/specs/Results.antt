@@ -2,6 +2,8 @@
 use Prim.Native.Nat.{ℕ}
 use mathlib.Core.Path.{_≡_}
 use mathlib.Core.List.{List}
+use lib.ListN.{length}
+use Rattle.registers.specs.Choose.{pick}
 use Rattle.registers.specs.Refusals.{refusalOf, wordOf}
 use Rattle.device_record.specs.Run.{lossesOf, runRefusal}
 use Rattle.device_record.specs.Calls.{readCall, readLeft, runCount, runLost, runLeft, runOutput, pairRefusal, pairCallLost, pairLeft}
@@ -9,12 +11,16 @@ use Rattle.device_record.specs.declared.run.Stop.{Stop}
 use Rattle.device_record.specs.declared.calls.RunAnswer.{RunAnswer}
 use Rattle.text.specs.Write.{writtenNumbers, writeAnswer, writeLeft}
 use Rattle.text.specs.Read.{cyclesIn, startsIn, readRefusal, readingNumbers, readAnswer, readInto}
+use Rattle.judge.specs.Shared.{shared, secondLonger, difference}
+use Rattle.judge.specs.Judge.{Judged, verdictNumbers}
+use Rattle.judge.specs.declared.judge.Verdict.{Verdict}
 use Rattle.pl022.specs.declared.WordResult.{WordResult}
 use Rattle.pl022.specs.declared.CountResult.{CountResult}
 use Rattle.pl022.specs.declared.TextResult.{TextResult}
 use Rattle.pl022.specs.declared.LostResult.{LostResult}
 use Rattle.pl022.specs.declared.RanResult.{RanResult}
 use Rattle.pl022.specs.declared.PairRanResult.{PairRanResult}
+use Rattle.pl022.specs.declared.PartResult.{PartResult}
 
 -- A read: a word with refusal 0, or a refusal number with word 0.
 pub record ReadResult (bytes : List ℕ) (o : ℕ) (r : WordResult) (bytes′ : List ℕ) : Type 0 where
@@ -59,3 +65,16 @@ pub record ReadTextResult (text cb sb : List ℕ) (r : TextResult) (cb′ sb′ 
   pub starts : r .starts ≡ readingNumbers (readAnswer text cb sb) .starts
   pub cyclesLeft : cb′ ≡ readInto (readRefusal text cb sb) (cyclesIn text) cb
   pub startsLeft : sb′ ≡ readInto (readRefusal text cb sb) (startsIn text) sb
+
+-- Judging a recording: the numbers of the verdict, and the eight places after it.
+pub record JudgeResult (cr0 cpsr : ℕ) (recording words : List ℕ) (r : CountResult) (words′ : List ℕ) : Type 0 where
+  pub verdict : Verdict
+  pub judged : Judged cr0 cpsr recording words verdict words′
+  pub refusal : r .refusal ≡ verdictNumbers verdict .refusal
+  pub count : r .count ≡ verdictNumbers verdict .count
+
+-- The difference of two recordings: of which it is a part, where it starts there, and how long it is.
+pub record DifferenceResult (one two : List ℕ) (r : PartResult) : Type 0 where
+  pub which : r .second ≡ pick (secondLonger one two) 1 0
+  pub start : r .start ≡ shared one two
+  pub long : r .length ≡ length (difference one two)

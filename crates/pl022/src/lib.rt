@@ -3,9 +3,10 @@
 ghost use mathlib.Core.Path.{_≡_};
 ghost use Rattle.device_record.specs.Calls.{firstEdition, ResetCall, WriteCall};
 ghost use Rattle.device_record.specs.declared.run.Stop.the-variants.{Never, NotBusy};
-ghost use Rattle.pl022.specs.Results.{ReadResult, ranNumbers, RunResult, PairResult, WriteTextResult, ReadTextResult};
+ghost use Rattle.pl022.specs.Results.{ReadResult, ranNumbers, RunResult, PairResult, WriteTextResult, ReadTextResult, JudgeResult, DifferenceResult};
 use device_record::calls::RunAnswer;
 use device_record::run::Stop;
+use judge::judge::Verdict;
 use registers::access::Answer;
 use text::read::Reading;
 use text::write::Written;
@@ -45,11 +46,11 @@ pub struct PairRanResult {
     pub second: LostResult,
 }
 
-// What the writing of a text answers.
+// What the writing of a text and the judge answer.
 #[repr(C)]
 pub struct CountResult {
     pub refusal: u64,
-    // bytes written, 0 where it is refused
+    // bytes written, words found or leading cycles, else 0
     pub count: u64,
 }
 
@@ -60,6 +61,15 @@ pub struct TextResult {
     // cycles and line starts written, 0 where it is refused
     pub cycles: u64,
     pub starts: u64,
+}
+
+// A part of one of two recordings.
+#[repr(C)]
+pub struct PartResult {
+    // 1 if it is a part of the second
+    pub second: u64,
+    pub start: u64,
+    pub length: u64,
 }
 
 // Makes the record that of a device as after reset, whatever it held, in the first edition.
@@ -189,5 +199,53 @@ pub extern "C" fn pl022_read_text(text: &[u8], lines: &mut [u8], starts: &mut [u
             cycles: 0,
             starts: 0,
         },
+    }
+}
+
+// Judges a recording as a master's with these settings; the words go to eight places.
+#[no_mangle]
+pub extern "C" fn pl022_judge(
+    cr0: u32,
+    cpsr: u32,
+    recording: &[u8],
+    words: &mut [u16; 8],
+) -> CountResult
+    ensures { λ r. ⌜ JudgeResult cr0 cpsr (now (recording .entry)) (now (words .entry)) r (now (words .exit)) ⌝ }
+{
+    let verdict = judge::judge::judge(cr0, cpsr, recording, words);
+    match verdict {
+        Verdict::Words(count) => CountResult {
+            refusal: 0,
+            count: count as u64,
+        },
+        Verdict::Leading(count) => CountResult {
+            refusal: judge::judge::NO_LIST as u64,
+            count: count as u64,
+        },
+        Verdict::Refused(refusal) => CountResult {
+            refusal: refusal as u64,
+            count: 0,
+        },
+    }
+}
+
+// The difference of two recordings.
+#[no_mangle]
+pub extern "C" fn pl022_difference<'a>(first: &'a [u8], second: &'a [u8]) -> PartResult
+    ensures { λ r. ⌜ DifferenceResult (now (first .entry)) (now (second .entry)) r ⌝ }
+{
+    let part = judge::shared::difference(first, second);
+    let length = part.len();
+    if first.len() < second.len() {
+        return PartResult {
+            second: 1,
+            start: (second.len() - length) as u64,
+            length: length as u64,
+        };
+    }
+    PartResult {
+        second: 0,
+        start: (first.len() - length) as u64,
+        length: length as u64,
     }
 }

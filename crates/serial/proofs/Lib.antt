@@ -16,3 +16,4 @@ pub mod Exchange
 pub mod Recordings
 pub mod Editions
 pub mod Premises
+pub mod Preloaded

@@ -10,3 +10,4 @@ pub mod Demand3
 pub mod Recordings
 pub mod Editions
 pub mod Premises
+pub mod Preloaded

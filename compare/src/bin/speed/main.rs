@@ -1,6 +1,8 @@
-//! Cycles, register accesses and bytes of text a second: the library and the second
-//! program at the same work in turn, and a plain fill or copy of the same bytes beside them.
+//! Cycles, register accesses, bytes of text and cycles judged a second: the library and the
+//! second program at the same work in turn, and a plain fill, copy or comparison of the same
+//! bytes beside them.
 
+mod judges;
 mod table;
 mod texts;
 
@@ -321,5 +323,6 @@ fn main() -> ExitCode {
     }
     good &= measure_accesses(cycles);
     good &= texts::measure(cycles);
+    good &= judges::measure(cycles);
     ExitCode::from(u8::from(!good))
 }

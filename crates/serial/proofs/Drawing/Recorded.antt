@@ -47,7 +47,7 @@ pub record Fresh (s : Settings) (d : DeviceModel) : Type 0 where
 
 -- A drawing is the same in both editions --------------------------------------------------------------------------------
 
-total-edition : (e : Bool) (s : Settings) (n : ℕ) → slotTotal (inEdition e s) n ≡ slotTotal s n
+pub total-edition : (e : Bool) (s : Settings) (n : ℕ) → slotTotal (inEdition e s) n ≡ slotTotal s n
 unfolding slotTotal
 total-edition e s zero = refl
 total-edition e s (suc n) = refl
@@ -81,7 +81,7 @@ framesM-edition : (e : Bool) (s : Settings) (ws : List ℕ) → framesM (inEditi
 framesM-edition e s [] = refl
 framesM-edition e s (w ∷ ws) = chainM-edition e s (w ∷ ws)
 
-drawing-edition : (e : Bool) (s : Settings) (ws : List ℕ) → drawing (inEdition e s) ws ≡ drawing s ws
+pub drawing-edition : (e : Bool) (s : Settings) (ws : List ℕ) → drawing (inEdition e s) ws ≡ drawing s ws
 unfolding drawing
 drawing-edition e s ws = go (s .format)
   where

@@ -1,0 +1,4 @@
+pub mod Shared
+pub mod Judge
+pub mod Place
+pub mod Follow
