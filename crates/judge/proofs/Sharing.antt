@@ -11,7 +11,8 @@ use lib.ListN.{length, take, drop, getD, length-drop, replicate, length-replicat
 use lib.Seq.{drop-cons, take-all}
 use borrow.Author.Tests.{eqb-true, eq-eqb, ne-eqb, lt-ltb, le-ltb}
 use Rattle.registers.specs.Choose.{pick}
-use Rattle.judge.specs.Shared.{shared, secondLonger, longer, difference, Smaller}
+use Rattle.judge.specs.Shared.{shared, secondLonger, longer, difference}
+use Rattle.judge.specs.Follow.{Smaller}
 
 pub shared-least : (xs ys : List ℕ) → shared xs ys ≤ length xs
 unfolding shared

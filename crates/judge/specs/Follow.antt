@@ -1,6 +1,7 @@
 -- The parts of the judge's code: what following a recording asks, and what it tells. What is accepted does not go by this page.
 use Prim.Native.Nat.{ℕ, _≤_, _<_}
 use mathlib.Core.Path.{_≡_}
+use mathlib.Core.Logic.{_⊎_}
 use mathlib.Core.Bool.{true}
 use mathlib.Core.List.{List}
 use lib.ListN.{replicate}
@@ -9,6 +10,12 @@ use Rattle.registers.specs.declared.settings.Settings.{Settings}
 use Rattle.judge.specs.Judge.{canEnable, settings, Given, NotGiven}
 use Rattle.judge.specs.declared.judge.Verdict.{Verdict}
 use Rattle.judge.specs.declared.judge.Verdict.the-variants.{Words, Refused, Leading}
+
+-- The smaller of two numbers.
+pub record Smaller (a b n : ℕ) : Type 0 where
+  pub first : n ≤ a
+  pub second : n ≤ b
+  pub either : (n ≡ a) ⊎ (n ≡ b)
 
 -- What settings of an enabled master have.
 pub record Permitted (s : Settings) : Type 0 where

@@ -117,6 +117,7 @@ waitByte t d n = pick (t .clocked) (8 + n % 2) (endByte t d n)
 
 -- Places ------------------------------------------------------------------------------------------------------------------
 
+-- A place, by its parts.
 abbrev pub placeBy : Stage → ℕ → ℕ → Bool → ℕ → Place
 placeBy stage left word more count = record { stage = stage; left = left; word = word; more = more; count = count }
 
@@ -145,6 +146,7 @@ enteredOn Wait t p x = p
 enteredOn Turn t p x = pick (goesOn t p x) (wordStart t (t .again) (p .count + 1)) (placeBy Close (t .closes) (p .word) false (p .count))
 enteredOn Close t p x = p
 
+-- The place of byte x behind place p.
 unfoldable pub entered : Table → Place → ℕ → Place
 entered t p x = enteredOn (p .stage) t p x
 
@@ -157,10 +159,11 @@ levelOn Wait p x = lastBit p
 levelOn Turn p x = lastBit p
 levelOn Close p x = lastBit p
 
+-- The data level of byte x at a place.
 unfoldable pub levelOf : Place → ℕ → Bool
 levelOf p x = levelOn (p .stage) p x
 
--- The byte of a slot with data level d.
+-- The byte of a slot with data level d, by its stage.
 abbrev pub byteOn : Stage → Table → Place → Bool → ℕ
 byteOn Lead t p d = leadByte t (p .left)
 byteOn First t p d = bitByte (t .first) (p .more) d
@@ -169,6 +172,7 @@ byteOn Wait t p d = waitByte t d (p .left)
 byteOn Turn t p d = endByte t d (p .left)
 byteOn Close t p d = endByte t d (p .left)
 
+-- The byte that fits a place.
 unfoldable pub byteAt : Table → Place → Bool → ℕ
 byteAt t p d = byteOn (p .stage) t p d
 
@@ -176,7 +180,7 @@ byteAt t p d = byteOn (p .stage) t p d
 unfoldable pub afterBits : Table → Place → Place
 afterBits t p = pick (eqb (t .waits) 0) (placeBy Turn 0 (p .word) (p .more) (p .count)) (placeBy Wait (t .waits) (p .word) false (p .count))
 
--- The place after a slot.
+-- The place after a slot, by its stage.
 abbrev pub passedOn : Stage → Table → Place → Bool → Place
 passedOn Lead t p d = pick (eqb (p .left) 1) (placeBy First (t .width) 0 false (p .count)) (placeBy Lead (p .left - 1) 0 false (p .count))
 passedOn First t p d = placeBy Second (p .left) (shiftedIn (p .word) d) (p .more) (p .count)
@@ -185,6 +189,7 @@ passedOn Wait t p d = pick (eqb (p .left) 1) (placeBy Turn 0 (p .word) false (p 
 passedOn Turn t p d = p
 passedOn Close t p d = placeBy Close (p .left - 1) (p .word) false (p .count)
 
+-- The place behind a slot with data level d.
 unfoldable pub passed : Table → Place → Bool → Place
 passed t p d = passedOn (p .stage) t p d
 

@@ -1,7 +1,5 @@
 -- Two recordings side by side: how far they are the same, and where they part.
-use Prim.Native.Nat.{ℕ, suc, _≤_}
-use mathlib.Core.Path.{_≡_}
-use mathlib.Core.Logic.{_⊎_}
+use Prim.Native.Nat.{ℕ, suc}
 use mathlib.Core.Bool.{Bool}
 use mathlib.Core.List.{List, [], _∷_}
 use lib.Dec.{ltb, eqb}
@@ -25,11 +23,3 @@ longer xs ys = pick (secondLonger xs ys) ys xs
 -- Of the longer one, the part that starts at the first difference; with no difference the rest past the shorter one.
 unfoldable pub difference : List ℕ → List ℕ → List ℕ
 difference xs ys = drop (shared xs ys) (longer xs ys)
-
--- The part of the code -------------------------------------------------------------------------------------------------------
-
--- The smaller of two numbers.
-pub record Smaller (a b n : ℕ) : Type 0 where
-  pub first : n ≤ a
-  pub second : n ≤ b
-  pub either : (n ≡ a) ⊎ (n ≡ b)

@@ -4,7 +4,6 @@ ghost use mathlib.Core.Bool.{false};
 ghost use mathlib.Core.List.{[]};
 ghost use Rattle.serial.specs.Cycle.{deviceOf};
 ghost use Rattle.serial.specs.Preloaded.{enabledWith};
-ghost use Rattle.judge.specs.Shared.{shared};
 ghost use Rattle.judge.specs.Judge.{Judged};
 ghost use Rattle.judge.specs.Follow.{Followable, Followed};
 use crate::place;

@@ -1,7 +1,8 @@
 // Two recordings side by side: how far they are the same, and where they part.
 ghost use mathlib.Core.Path.{_≡_};
 ghost use lib.ListN.{replicate};
-ghost use Rattle.judge.specs.Shared.{shared, difference, Smaller};
+ghost use Rattle.judge.specs.Shared.{shared, difference};
+ghost use Rattle.judge.specs.Follow.{Smaller};
 
 // The smaller of two numbers.
 fn smaller(a: usize, b: usize) -> usize
