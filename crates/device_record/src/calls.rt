@@ -29,7 +29,7 @@ pub const FIRST_EDITION: u32 = 1;
 const SECOND_EDITION: u32 = 2;
 
 // What a run answers.
-#[derive(Drop)]
+#[derive(Clone, Copy)]
 pub struct RunAnswer {
     pub refusal: u8,
     // cycles run, 0 if refused
@@ -39,7 +39,7 @@ pub struct RunAnswer {
 }
 
 // What a pair run answers.
-#[derive(Drop)]
+#[derive(Clone, Copy)]
 pub struct PairAnswer {
     pub refusal: u8,
     // what each device lost, zeros if refused

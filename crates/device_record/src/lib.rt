@@ -1,5 +1,6 @@
 // A device as a record of 128 bytes: the bytes, runs over line bytes, and the calls on records that C programs use.
 // Every public function takes any value of its parameters; contracts cite the definitions of specs/ by the same names.
+#![tactic(auto)]
 
 // A device as 128 bytes.
 pub mod record;

@@ -17,7 +17,7 @@ const BUSY: u32 = 4;
 const HIGHEST_INPUT: u8 = 7;
 
 // When a run stops before its input ends.
-#[derive(Drop)]
+#[derive(Clone, Copy)]
 pub enum Stop {
     // never
     Never,
@@ -26,7 +26,7 @@ pub enum Stop {
 }
 
 // The result of a run: the cycles run, what was lost in them, and the device after them.
-#[derive(Drop)]
+#[derive(Clone, Copy)]
 pub struct Ran {
     pub count: usize,
     pub lost: Losses,

@@ -6,7 +6,7 @@ use registers::settings::Settings;
 use registers::time::{Cycles, Slots};
 
 // The shift registers.
-#[derive(Drop)]
+#[derive(Clone, Copy)]
 pub struct Shift {
     // bits captured of the word being received
     pub captured: u8,
@@ -17,7 +17,7 @@ pub struct Shift {
 }
 
 // The engine's state. Wide fields come first, so that there is no gap to copy.
-#[derive(Drop)]
+#[derive(Clone, Copy)]
 pub struct Engine {
     // the cycles of a master's slot that are over
     pub elapsed: Cycles,
@@ -33,7 +33,7 @@ pub struct Engine {
 }
 
 // The result of a cycle's step.
-#[derive(Drop)]
+#[derive(Clone, Copy)]
 pub struct Step {
     pub engine: Engine,
     // the next word to send, if there is one, leaves the queue

@@ -1,5 +1,6 @@
 // The frames of the PL022: slot tables, shift registers, lines, and what a master does in each slot. No register file.
 // Every function takes any value of its parameters; contracts cite the definitions of specs/ by the same names.
+#![tactic(auto)]
 
 // Bits of a word.
 pub mod bits;

@@ -8,7 +8,7 @@ use crate::slots::Levels;
 use registers::settings::{Format, Settings};
 
 // The input levels of a cycle.
-#[derive(Drop)]
+#[derive(Clone, Copy)]
 pub struct Pins {
     pub clk: bool,
     pub fss: bool,
@@ -16,7 +16,7 @@ pub struct Pins {
 }
 
 // The output levels of a cycle; `released` is nSSPOE HIGH.
-#[derive(Drop)]
+#[derive(Clone, Copy)]
 pub struct Lines {
     pub clk: bool,
     pub fss: bool,

@@ -5,7 +5,7 @@ ghost use Rattle.frames.specs.Slots.{motorola_event, ti_event, microwire_event, 
 use registers::settings::{Format, Settings};
 use registers::time::Slots;
 
-#[derive(Drop)]
+#[derive(Clone, Copy)]
 pub enum Event {
     // the word is taken
     Begin,
@@ -31,7 +31,7 @@ pub enum Event {
 }
 
 // Clock before SPO, FSS and nSSPOE.
-#[derive(Drop)]
+#[derive(Clone, Copy)]
 pub struct Levels {
     pub clk: bool,
     pub fss: bool,

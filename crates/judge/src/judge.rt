@@ -32,7 +32,7 @@ const CPSR: u32 = 0x10;
 const ENABLED: u32 = 2;
 
 // What the judge says about a recording.
-#[derive(Drop)]
+#[derive(Clone, Copy)]
 pub enum Verdict {
     // accepted: the number of words
     Words(usize),

@@ -18,7 +18,7 @@ const MARKED_CLOCK: u8 = 11;
 const MOST_WORDS: u16 = 8;
 
 // What a reader needs to know about a format's slots. The bytes have TXD LOW.
-#[derive(Drop)]
+#[derive(Clone, Copy)]
 pub struct Table {
     // the bits of a word
     pub width: u8,
@@ -46,7 +46,7 @@ pub struct Table {
 }
 
 // The stages of a word's slots.
-#[derive(Drop)]
+#[derive(Clone, Copy)]
 pub enum Stage {
     // before the first bit
     Lead,
@@ -63,7 +63,7 @@ pub enum Stage {
 }
 
 // The slot that comes next.
-#[derive(Drop)]
+#[derive(Clone, Copy)]
 pub struct Place {
     pub stage: Stage,
     // how many slots are left in the stage; in First and Second, how many bits
@@ -77,7 +77,7 @@ pub struct Place {
 }
 
 // Whether a byte fits, and the slot after it.
-#[derive(Drop)]
+#[derive(Clone, Copy)]
 pub struct Next {
     pub fits: bool,
     pub place: Place,

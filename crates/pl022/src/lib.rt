@@ -1,5 +1,7 @@
 // The calls for C, which include/pl022.h describes. Each passes its arguments to a crate below and returns its answer.
 // No rule of the device, of texts or of the judge is in this crate.
+#![tactic(auto)]
+
 ghost use Rattle.std.specs.Prelude.{◌≡◌};
 ghost use Rattle.device_record.specs.Calls.{first_edition, ResetCall, WriteCall};
 ghost use Rattle.device_record.specs.declared.run.Stop.TheVariants.{Never, NotBusy};
@@ -14,7 +16,7 @@ use text::write::Written;
 
 // What a read answers.
 #[repr(C)]
-#[derive(Drop)]
+#[derive(Clone, Copy)]
 pub struct WordResult {
     pub refusal: u32,
     // 0 if refused
@@ -23,7 +25,7 @@ pub struct WordResult {
 
 // Words lost to overrun.
 #[repr(C)]
-#[derive(Drop)]
+#[derive(Clone, Copy)]
 pub struct LostResult {
     pub count: u64,
     // the last of them, 0 if none
@@ -32,7 +34,7 @@ pub struct LostResult {
 
 // What a run answers.
 #[repr(C)]
-#[derive(Drop)]
+#[derive(Clone, Copy)]
 pub struct RanResult {
     pub refusal: u64,
     // cycles run, 0 if refused
@@ -43,7 +45,7 @@ pub struct RanResult {
 
 // What a pair run answers.
 #[repr(C)]
-#[derive(Drop)]
+#[derive(Clone, Copy)]
 pub struct PairRanResult {
     pub refusal: u64,
     // words lost by each device; zeros if refused
@@ -53,7 +55,7 @@ pub struct PairRanResult {
 
 // What writing a text and judging a recording answer.
 #[repr(C)]
-#[derive(Drop)]
+#[derive(Clone, Copy)]
 pub struct CountResult {
     pub refusal: u64,
     // bytes written, words found or leading cycles, otherwise 0
@@ -62,7 +64,7 @@ pub struct CountResult {
 
 // What reading a text answers.
 #[repr(C)]
-#[derive(Drop)]
+#[derive(Clone, Copy)]
 pub struct TextResult {
     pub refusal: u64,
     // cycles and line starts written, 0 if refused
@@ -72,7 +74,7 @@ pub struct TextResult {
 
 // A part of one of two recordings.
 #[repr(C)]
-#[derive(Drop)]
+#[derive(Clone, Copy)]
 pub struct PartResult {
     // 1 if it is a part of the second recording, otherwise 0
     pub second: u64,

@@ -1,5 +1,7 @@
 // A queue of at most eight 16-bit words, first in, first out.
 // Every function takes any value: a stored count above eight acts as eight.
+#![tactic(auto)]
+
 ghost use Rattle.std.specs.Prelude.{◌≡◌};
 ghost use Rattle.queue.specs.Fifo.{contents, used_word, word_at, Empty, Count, Add, TakeOldest, Restored};
 
@@ -7,35 +9,35 @@ ghost use Rattle.queue.specs.Fifo.{contents, used_word, word_at, Empty, Count, A
 pub const PLACES: usize = 8;
 
 // The oldest word is at index 0.
-#[derive(Drop)]
+#[derive(Clone, Copy)]
 pub struct Queue {
     words: [u16; 8],
     count: usize,
 }
 
 // The word that was dropped, or none.
-#[derive(Drop)]
+#[derive(Clone, Copy)]
 pub enum Dropped {
     Word(u16),
     Nothing,
 }
 
 // The result of adding a word: that word if it was dropped, and the queue.
-#[derive(Drop)]
+#[derive(Clone, Copy)]
 pub struct Added {
     pub dropped: Dropped,
     pub queue: Queue,
 }
 
 // The oldest word, or none.
-#[derive(Drop)]
+#[derive(Clone, Copy)]
 pub enum Oldest {
     Word(u16),
     Nothing,
 }
 
 // The result of taking the oldest word: that word, and the queue without it.
-#[derive(Drop)]
+#[derive(Clone, Copy)]
 pub struct Taken {
     pub oldest: Oldest,
     pub queue: Queue,

@@ -1,5 +1,6 @@
 // Prints recordings of the proved code, one line each: a name, then one digit per cycle (lost words: a point or the word).
 // Expected: P1 to P5, Microwire slaves, stopped ports, lost words by hand from docs/MODEL.md; the rest by compare/'s program.
+#![tactic(auto)]
 
 // Ports stopped in the middle of a frame.
 mod stopped;

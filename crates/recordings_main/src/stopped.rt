@@ -9,7 +9,7 @@ const NEVER: usize = 1000;
 const ENABLED: u32 = 0x2;
 
 // A port, and the cycles before which its SSE is cleared and set again.
-#[derive(Drop)]
+#[derive(Clone, Copy)]
 struct Stopped {
     cr0: u32,
     cpsr: u32,

@@ -4,7 +4,7 @@ use crate::commands::Outcome;
 use crate::{commands, report};
 
 // A command as far as it is read.
-#[derive(Drop)]
+#[derive(Clone, Copy)]
 struct Command {
     // 0 before the name
     letter: u8,
@@ -14,7 +14,7 @@ struct Command {
     last: u32,
 }
 
-#[derive(Drop)]
+#[derive(Clone, Copy)]
 struct State {
     in_label: bool,
     command: Command,

@@ -12,7 +12,7 @@ const DR: u32 = 0x08;
 const CPSR: u32 = 0x10;
 
 // What a command gives: a word or a refusal number, and the registers.
-#[derive(Drop)]
+#[derive(Clone, Copy)]
 pub(crate) struct Outcome {
     pub is_word: bool,
     pub number: u32,

@@ -1,4 +1,6 @@
 // Runs the registers on the cases of its input, then the queue on a few of its own, and writes one line for each.
+#![tactic(auto)]
+
 mod cases;
 mod commands;
 mod queues;

@@ -27,19 +27,19 @@ pub const QUEUE_FULL: u8 = 7;
 pub const QUEUE_EMPTY: u8 = 8;
 
 // What a read answers: a word, or a refusal number.
-#[derive(Drop)]
+#[derive(Clone, Copy)]
 pub enum Answer {
     Word(u16),
     Refused(u8),
 }
 
-#[derive(Drop)]
+#[derive(Clone, Copy)]
 pub struct Reading {
     pub answer: Answer,
     pub registers: Registers,
 }
 
-#[derive(Drop)]
+#[derive(Clone, Copy)]
 pub struct Written {
     pub refusal: u8,
     pub registers: Registers,

@@ -8,7 +8,7 @@ use crate::{Control, Masks, Registers, Timeout};
 use queue::Queue;
 
 // The registers, and each queue as its eight places, oldest word first, with a count.
-#[derive(Drop)]
+#[derive(Clone, Copy)]
 pub struct Fields {
     pub control: Control,
     pub masks: Masks,

@@ -6,7 +6,7 @@ ghost use Rattle.registers.specs.Flags.{ValueOf, busy_of, status_of, raw_of, mas
 use crate::{Registers, bits};
 
 // The four interrupts, raw or masked.
-#[derive(Drop)]
+#[derive(Clone, Copy)]
 pub struct Interrupts {
     pub tx: bool,
     pub rx: bool,

@@ -1,5 +1,7 @@
 // The register file of the PL022, with its two queues of eight words.
 // Every function takes any value of its parameters; its contract is about the model in specs/Model.antt.
+#![tactic(auto)]
+
 ghost use Rattle.std.specs.Prelude.{◌≡◌};
 ghost use Rattle.registers.specs.Model.{model_of, reset_registers};
 
@@ -26,7 +28,7 @@ use crate::time::Cycles;
 use queue::Queue;
 
 // The registers that set the port up.
-#[derive(Drop)]
+#[derive(Clone, Copy)]
 pub struct Control {
     pub cr0: u16,
     // two bytes wide, so that no gap is left at the end
@@ -37,21 +39,21 @@ pub struct Control {
 }
 
 // Registers that the port stores and the engine does not use.
-#[derive(Drop)]
+#[derive(Clone, Copy)]
 pub struct Masks {
     pub imsc: u8,
     pub dmacr: u8,
 }
 
 // The receive timeout: the flag RT, and the cycles counted towards it.
-#[derive(Drop)]
+#[derive(Clone, Copy)]
 pub struct Timeout {
     pub rt: bool,
     pub count: Cycles,
 }
 
 // The register file. Small fields are together, the masks first, so that there is no wide gap to copy.
-#[derive(Drop)]
+#[derive(Clone, Copy)]
 pub struct Registers {
     masks: Masks,
     control: Control,

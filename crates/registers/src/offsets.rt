@@ -2,7 +2,7 @@
 ghost use Rattle.std.specs.Prelude.{◌≡◌};
 ghost use Rattle.registers.specs.Offsets.{register_of, identity_of};
 
-#[derive(Drop)]
+#[derive(Clone, Copy)]
 pub enum Register {
     Cr0,
     Cr1,

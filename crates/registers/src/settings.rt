@@ -7,7 +7,7 @@ use crate::time::Divisor;
 use crate::{Control, Registers, bits};
 
 // The frame format.
-#[derive(Drop)]
+#[derive(Clone, Copy)]
 pub enum Format {
     Motorola,
     Ti,
@@ -16,7 +16,7 @@ pub enum Format {
 }
 
 // All settings that the serial engine uses.
-#[derive(Drop)]
+#[derive(Clone, Copy)]
 pub struct Settings {
     pub format: Format,
     // SPH

@@ -3,15 +3,15 @@ ghost use Rattle.std.specs.Prelude.{◌≡◌};
 ghost use Rattle.registers.specs.Time.{cycles_of};
 
 // A length in cycles of the port's clock.
-#[derive(Drop)]
+#[derive(Clone, Copy)]
 pub struct Cycles(pub u32);
 
 // A length in slots: two slots are a bit.
-#[derive(Drop)]
+#[derive(Clone, Copy)]
 pub struct Slots(pub u16);
 
 // h, the cycles in a slot.
-#[derive(Drop)]
+#[derive(Clone, Copy)]
 pub struct Divisor(pub u16);
 
 // The cycles of a number of slots. No other conversion exists.

@@ -11,14 +11,14 @@ use queue::Dropped;
 const TIMEOUT: Slots = Slots(64);
 
 // The word that was lost on its arrival, or none.
-#[derive(Drop)]
+#[derive(Clone, Copy)]
 pub enum Lost {
     Word(u16),
     Nothing,
 }
 
 // The result of a word's arrival: that word if it was lost, and the register file.
-#[derive(Drop)]
+#[derive(Clone, Copy)]
 pub struct Received {
     pub lost: Lost,
     pub registers: Registers,

@@ -6,13 +6,13 @@ ghost use Rattle.serial.specs.Access.{Read, Write};
 use crate::Device;
 use registers::access::Answer;
 
-#[derive(Drop)]
+#[derive(Clone, Copy)]
 pub struct Reading {
     pub answer: Answer,
     pub device: Device,
 }
 
-#[derive(Drop)]
+#[derive(Clone, Copy)]
 pub struct Written {
     pub refusal: u8,
     pub device: Device,

@@ -11,7 +11,7 @@ use registers::settings::Settings;
 use registers::transfer::{Lost, Received};
 
 // The result of a cycle: the device, and the word lost in it, or none.
-#[derive(Drop)]
+#[derive(Clone, Copy)]
 pub struct Cycled {
     pub device: Device,
     pub lost: Lost,

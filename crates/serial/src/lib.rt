@@ -1,5 +1,7 @@
 // The serial engine of the PL022 with its register file: a device as a value, one cycle at a time.
 // Every function takes any value of its parameters; contracts cite the definitions of specs/ by the same names.
+#![tactic(auto)]
+
 ghost use Rattle.std.specs.Prelude.{◌≡◌};
 ghost use Rattle.serial.specs.Cycle.{device_of, reset_device};
 
@@ -21,7 +23,7 @@ use frames::lines::{Lines, Pins};
 use registers::Registers;
 
 // The pins of the last three cycles.
-#[derive(Drop)]
+#[derive(Clone, Copy)]
 pub struct History {
     pub newest: Pins,
     pub middle: Pins,
@@ -29,7 +31,7 @@ pub struct History {
 }
 
 // A PL022.
-#[derive(Drop)]
+#[derive(Clone, Copy)]
 pub struct Device {
     pub registers: Registers,
     pub engine: Engine,

@@ -5,7 +5,7 @@ ghost use Rattle.serial.specs.Lost.{none_lost, noted};
 use registers::transfer::Lost;
 
 // How many words were lost, and the last of them, 0 if none.
-#[derive(Drop)]
+#[derive(Clone, Copy)]
 pub struct Losses {
     pub count: u64,
     // as wide as the count, so that no gap is left at the end

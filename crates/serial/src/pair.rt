@@ -6,14 +6,14 @@ use crate::Device;
 use crate::lost::Losses;
 use frames::lines::{Lines, Pins};
 
-#[derive(Drop)]
+#[derive(Clone, Copy)]
 pub struct Wired {
     pub first: Device,
     pub second: Device,
 }
 
 // The result of a pair run: what each device lost in it, and the pair.
-#[derive(Drop)]
+#[derive(Clone, Copy)]
 pub struct PairRan {
     pub first: Losses,
     pub second: Losses,

@@ -6,7 +6,7 @@ ghost use Rattle.text.specs.Read.{value_of};
 pub const LINE_FEED: u8 = 10;
 
 // What a byte of a text is.
-#[derive(Drop)]
+#[derive(Clone, Copy)]
 pub enum Character {
     // a digit, with its cycle
     Digit(u8),

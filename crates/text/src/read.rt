@@ -10,14 +10,14 @@ use crate::refusals::{
 };
 
 // What reading answers: how many cycles and line starts there are, or a refusal number.
-#[derive(Drop)]
+#[derive(Clone, Copy)]
 pub enum Reading {
     Recording(usize, usize),
     Refused(u8),
 }
 
 // A checked text: its refusal number, and how many cycles and line starts it has if that is 0.
-#[derive(Drop)]
+#[derive(Clone, Copy)]
 struct Checked {
     refusal: u8,
     cycles: usize,

@@ -12,7 +12,7 @@ use crate::refusals::{BAD_CYCLE, BAD_PLACES, DONE, MOST_CYCLES, TOO_MANY_CYCLES,
 const HIGHEST_CYCLE: u8 = 15;
 
 // What writing answers: how many bytes were written, or a refusal number.
-#[derive(Drop)]
+#[derive(Clone, Copy)]
 pub enum Written {
     Bytes(usize),
     Refused(u8),
