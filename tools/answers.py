@@ -74,23 +74,55 @@ class Names:
         return {"well-formed": "well_formed", "element-fits": "element_fits"}.get(name)
 
 
-def paths(text, names, place, said, where):
+TESTS = {"<": ("lt-ltb", "le-ltb"), "<=": ("le-leb", "lt-leb"), "==": ("eq-eqb", "ne_eqb")}
+
+
+def flags(crate, path):
+    """The named flags of a function that are a single comparison: their facts are now propositions."""
+    found = {}
+    name = path.split("/")[-1]
+    for folder, _, files in os.walk(f"crates/{crate}/src"):
+        for f in files:
+            text = open(os.path.join(folder, f), encoding="utf-8").read()
+            m = re.search(r"fn " + re.escape(name) + r"\b.*?\n\s*\}\n(?=\n|$)", text, re.S)
+            if not m:
+                continue
+            for n, e in re.findall(r"let (?:mut )?(\w+) = ([^;{}]*);", m.group(0)):
+                ops = re.findall(r"(?<![<>=!&|])(<=|==|<|!=|>=|>|&|\|)(?![<>=&|])", e)
+                if len(ops) == 1 and ops[0] in TESTS:
+                    found[n] = TESTS[ops[0]]
+    return found
+
+
+def paths(text, names, place, said, where, flag, arm):
     def one(m):
         field = m.group(2)
         if field in ("args", "ranges", "requires"):
             return "c." + field
-        new = names.field(place, field)
+        new = names.field(place, field) or names.field(place, re.sub(r"_lem$", "", field)) or names.field(place, field.lower())
+        if field.startswith(("enum_told", "enum-told", "known_told", "known-told")) and arm:
+            return "c.in-" + arm
         if new is None:
             said.append(f"{where}: no step {field}")
             return m.group(0)
         return "c." + new
-    return re.sub(r"(?<![A-Za-z0-9_'\-.])c((?:\.before)*)\.(" + NAME + r")", one, text)
+    text = re.sub(r"(?<![A-Za-z0-9_'\-.])c((?:\.before)*)\.(" + NAME + r")", one, text)
+    text = re.sub(r"\.keys\d+(?![A-Za-z0-9_'\-])", ".is", text)
+    text = re.sub(r"(c\.in-[A-Za-z0-9_\-]*)\.given\.1", r"\1.is", text)
+    def test(m):
+        if m.group(1) in flag:
+            return "(" + flag[m.group(1)][m.group(2) == "false"] + " _ _ " + m.group(0) + ")"
+        return m.group(0)
+    text = re.sub(r"c\.if-(\w+)\.(true|false)(?![A-Za-z0-9_'\-.])", test, text)
+    # a fact turned to a test and back
+    return re.sub(r"(?:ltb|leb|eqb)-(?:true|false) (?:\([^()]*\)|[\w.\-]+) (?:\([^()]*\)|[\w.\-]+) \((?:lt-ltb|le-ltb|le-leb|lt-leb|eq-eqb|ne_eqb) _ _ (c\.[\w.\-]+)\)", r"\1", text)
 
 
 def turn(crate, path, text, entry, said):
     names = Names(entry)
     uses, decls, _ = blocks(text)
     where = crate + "/" + path
+    flag = flags(crate, path)
     mod = "Rattle." + crate + ".proofs." + path.replace("/", ".")
     keep = [u for u in uses if ".Statement.{" not in u and " as tie" not in u and not u.endswith(".Tie as tie")]
     invariants, answers, helpers = [], [], []
@@ -137,7 +169,8 @@ def turn(crate, path, text, entry, said):
             if re.fullmatch(re.escape(name) + r" c( κs)? =\s*search rules", t):
                 continue
             t = re.sub(r"^" + re.escape(name) + r" c( κs)?", new + " c", t)
-            t = paths(t, names, place, said, where + " " + new)
+            arms = re.findall(r"in-([A-Za-z0-9_]+)", new)
+            t = paths(t, names, place, said, where + " " + new, flag, arms[-1] if arms else None)
             answers.append("\n".join(comments + [f"pub {new} : goal.{new}"] + unfold + [t]))
         elif "tie.close" in body:
             continue
@@ -168,6 +201,9 @@ def turn(crate, path, text, entry, said):
                     used.append(i)
             if used:
                 chosen.append(f"use {m.group(1)}.{{{', '.join(used)}}}")
+        for lemma in sorted({l for pair in TESTS.values() for l in pair}):
+            if re.search(r"(?<![A-Za-z0-9_'\-])" + lemma + r"(?![A-Za-z0-9_'\-])", text) and not any(lemma in u for u in chosen):
+                chosen.append("use borrow.Author.Tests.{" + lemma + "}")
         chosen.append(f"use {mod}.{extra} as goal")
         return "\n".join(chosen) + "\n\n" + "\n\n".join(parts) + "\n"
     if invariants:
