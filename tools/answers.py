@@ -146,8 +146,7 @@ def turn(crate, path, text, entry, said):
             head, right = text_.split(" =", 1)
             params = head.split()[1:]
             moved = [v for v, c in zip(vars, changed) if c]
-            still = [v for v, c in zip(vars, changed) if not c]
-            want = still + [v + "₀" for v in moved] + moved
+            want = [v + "₀" if c else v for v, c in zip(vars, changed)] + moved
             table = {}
             if len(params) != len(want):
                 said.append(f"{where}: invariant has {params}, loop has {want}")
