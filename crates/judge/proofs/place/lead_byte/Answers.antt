@@ -1,0 +1,11 @@
+use Rattle.judge.specs.Place.{lead_byte}
+use borrow.Author.Tests.{eq-eqb, ne_eqb}
+use Rattle.judge.proofs.place.lead_byte.Goals as goal
+
+pub returns-then-n-eq1 : goal.returns-then-n-eq1
+unfolding lead_byte
+returns-then-n-eq1 c = rw (eq-eqb _ _ c.if-n-eq1.true)
+
+pub returns-else-n-eq1 : goal.returns-else-n-eq1
+unfolding lead_byte
+returns-else-n-eq1 c = rw (ne_eqb _ _ c.if-n-eq1.false)
