@@ -14,12 +14,12 @@ use borrow.Author.Tests.{eqb-true, eq-eqb, not-true}
 use Rattle.frames.specs.Bits.{cut}
 use Rattle.serial.proofs.Top.{top, top_full}
 use Rattle.serial.specs.Preloaded.{Sixteen}
-use Rattle.judge.specs.Place.{place_by, end_byte, over_on, over}
+use Rattle.judge.specs.Place.{place_by, lead_byte, end_byte, last_bit, over_on, over}
 use Rattle.judge.specs.declared.place.Table.{Table}
 use Rattle.judge.specs.declared.place.Stage.{Stage}
 use Rattle.judge.specs.declared.place.Stage.TheVariants.{Lead, First, Second, Wait, Turn, Close}
 use Rattle.judge.specs.declared.place.Place.{Place}
-use Rattle.judge.proofs.Rests.{down, some, bits_from, Good}
+use Rattle.judge.proofs.Rests.{down, some, bits_from, behind, Good}
 use Rattle.judge.proofs.Way.{taken_on, AgreesOn, Fits, rest_of, FineOn, Fine, Could, false_true, nil_cons, and_both}
 
 -- Something ---------------------------------------------------------------------------------------------------------------------
@@ -159,16 +159,16 @@ module _ (t : Table) (g : Good t) where
           → [] ≡ rest_of t (place_by stage left word m c) w ws → us ≡ done ++ map (cut t.width) (w ∷ ws) → Ended (place_by stage left word m c) done us
       go Lead zero word m c f w ws v e a = let l = f.stage in absurd (omega arith)
       go Lead (suc n) word m c f w ws v e a = nil_cons (sym e)
-      go First left word m c f w ws v e a = absurd (bits_some (some ws) w (t.width - left) left f.stage.0 _ e)
+      go First left word m c f w ws v e a = absurd (bits_some (some ws) w (t.width - left) left f.stage.0 (behind t w ws) e)
       go Second left word m c f w ws v e a = nil_cons (sym e)
       go Wait zero word m c f w ws v e a = let l = f.stage.0 in absurd (omega arith)
       go Wait (suc n) word m c f w ws v e a = nil_cons (sym e)
       go Turn left word m c f w [] v e a = record {
-        over = ap₂ ◌&&◌ (unmarked m t.marks (λ y. (f.mark y).0) v.agrees) (eq-eqb t.closes 0 (down_none _ t.closes e));
+        over = ap₂ ◌&&◌ (unmarked m t.marks (λ y. (f.mark y).0) v.agrees) (eq-eqb t.closes 0 (down_none (end_byte t (last_bit (place_by Turn left word m c))) t.closes e));
         words = last_word word w done us [] v.known refl a;
       }
-      go Turn left word m c f w (u ∷ us) v e a = absurd (word_some _ t.again (some us) u _ e)
+      go Turn left word m c f w (u ∷ us) v e a = absurd (word_some (lead_byte t) t.again (some us) u (behind t u us) e)
       go Close left word m c f w ws v e a = record {
-        over = eq-eqb left 0 (down_none _ left e);
+        over = eq-eqb left 0 (down_none (end_byte t (last_bit (place_by Close left word m c))) left e);
         words = last_word word w done us ws v.known v.agrees a;
       }

@@ -5,7 +5,7 @@ use Rattle.judge.proofs.Steps.{entered_at}
 use Rattle.judge.proofs.place.entered.Goals as goal
 
 pub returns-then-on : goal.returns-then-on
-returns-then-on c = c.word_start.ensures ∙ sym (pick_yes _ _ (sym c.goes_on-on.ensures ∙ c.if-on.true)) ∙ entered_at _ _ _ c.enum_told-in-Turn-1.given.1
+returns-then-on c = c.word_start.ensures ∙ sym (pick_yes _ _ (sym c.goes_on-on.ensures ∙ c.if-on.true)) ∙ entered_at _ _ _ c.in-Turn.is
 
 pub returns-in-Lead : goal.returns-in-Lead
 unfolding entered
@@ -24,7 +24,7 @@ unfolding entered
 returns-in-Wait c = rw c.in-Wait.is
 
 pub returns-else-on : goal.returns-else-on
-returns-else-on c = sym (pick_no _ _ (sym c.goes_on-on.ensures ∙ c.if-on.false)) ∙ entered_at _ _ _ c.enum_told-in-Turn-1.given.1
+returns-else-on c = sym (pick_no _ _ (sym c.goes_on-on.ensures ∙ c.if-on.false)) ∙ entered_at _ _ _ c.in-Turn.is
 
 pub returns-in-Close : goal.returns-in-Close
 unfolding entered
