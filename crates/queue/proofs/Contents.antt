@@ -12,7 +12,7 @@ use Rattle.queue.specs.declared.Queue.{Queue}
 use Rattle.queue.specs.declared.Oldest.TheVariants.{Word, Nothing}
 use Rattle.queue.specs.declared.Dropped.{Dropped}
 use Rattle.queue.specs.Fifo.Inside.{contents_of, clean_intro, clean_elim}
-use Rattle.queue.specs.Fifo.{contents, used_word, added, dropped, oldest, Empty, Add, TakeOldest, Restored}
+use Rattle.queue.specs.Fifo.{contents, used_word, added, dropped, Empty, Add, TakeOldest, Restored}
 
 -- the count
 

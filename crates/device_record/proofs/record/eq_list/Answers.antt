@@ -1,4 +1,3 @@
-use Prim.Native.Nat.{◌-◌}
 use mathlib.Core.Path.{sym}
 use Rattle.device_record.proofs.RoundTrip.{eq_list_length}
 use Rattle.device_record.proofs.Bytes.{agree_turn, agree_end}

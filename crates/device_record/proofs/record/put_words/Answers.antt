@@ -1,4 +1,3 @@
-use Prim.Native.Nat.{◌-◌}
 use native.Mathlib.Omega.{arith}
 use Rattle.device_record.proofs.Bytes.{put_start, put_end, length-words, words-turn}
 use Rattle.device_record.proofs.record.put_words.Goals as goal

@@ -1,4 +1,3 @@
-use Prim.Native.Nat.{◌-◌}
 use Rattle.device_record.proofs.Bytes.{read_turn, read_end}
 use Rattle.device_record.proofs.record.words_at.Goals as goal
 

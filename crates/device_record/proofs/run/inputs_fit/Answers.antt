@@ -1,4 +1,3 @@
-use Prim.Native.Nat.{◌-◌}
 use native.Mathlib.Omega.{arith}
 use Rattle.device_record.proofs.Runs.{fit_turn, fit_end}
 use Rattle.device_record.proofs.run.inputs_fit.Goals as goal

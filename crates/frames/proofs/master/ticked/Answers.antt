@@ -1,4 +1,3 @@
-use Prim.Native.Nat.{◌+◌}
 use Rattle.frames.proofs.Words.{next_small}
 use Rattle.frames.specs.Master.{ticked}
 use native.Mathlib.Omega.{arith}

@@ -1,4 +1,3 @@
-use Prim.Native.Nat.{◌-◌}
 use mathlib.Core.Path.{refl, sym, ◌∙◌}
 use Rattle.judge.proofs.Verdicts.{good-settings}
 use Rattle.judge.proofs.Following.{following_begin, following_stop, following_part, following_turn, following_early, following_over, words_count, words-places, told_leading, told_words}

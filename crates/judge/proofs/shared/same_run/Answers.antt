@@ -1,4 +1,3 @@
-use Prim.Native.Nat.{◌-◌}
 use Rattle.judge.proofs.Sharing.{run-turn, run_stop, run_end}
 use Rattle.judge.proofs.shared.same_run.Goals as goal
 

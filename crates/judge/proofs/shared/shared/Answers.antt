@@ -1,4 +1,3 @@
-use Prim.Native.Nat.{◌-◌}
 use Rattle.judge.proofs.Sharing.{sharing_turn, sharing_stop, sharing_end}
 use native.Mathlib.Omega.{arith}
 use Rattle.judge.proofs.shared.shared.Goals as goal
