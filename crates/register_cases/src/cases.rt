@@ -2,6 +2,8 @@
 // The label is written out, then what the last command gives. Numbers are decimal, or hexadecimal with 0x.
 use crate::commands::Outcome;
 use crate::{commands, report};
+use std::io;
+use std::io::Write;
 
 // A command as far as it is read.
 #[derive(Clone, Copy)]
@@ -98,61 +100,60 @@ fn executed(s: State) -> Outcome {
     commands::run(o.registers, c.letter, c.first, c.last)
 }
 
-fn show(o: Outcome) {
+fn show<W: Write>(out: &mut W, o: Outcome) -> io::Result<()> {
     if o.is_word {
-        report::hex(o.number);
+        report::hex(out, o.number)?;
     } else {
-        report::refusal(o.number);
+        report::refusal(out, o.number)?;
     }
-    report::text(b"\n");
+    report::text(out, b"\n")
 }
 
-fn label_byte(s: State, byte: u8) -> State {
+fn label_byte<W: Write>(out: &mut W, s: State, byte: u8) -> io::Result<State> {
     let mut next = s;
-    report::text(&[byte]);
+    report::text(out, &[byte])?;
     if byte == b':' {
-        report::text(b" ");
+        report::text(out, b" ")?;
         next.in_label = false;
     }
-    next
+    Ok(next)
 }
 
-fn command_byte(s: State, byte: u8) -> State {
+fn command_byte<W: Write>(out: &mut W, s: State, byte: u8) -> io::Result<State> {
     let mut next = s;
     if (byte != b',') & (byte != b'\n') {
         let command = in_command(s.command, byte);
         next.command = command;
-        return next;
+        return Ok(next);
     }
     let outcome = executed(s);
     let ends = byte == b'\n';
     if ends {
-        show(outcome);
+        show(out, outcome)?;
     }
-    State {
+    Ok(State {
         in_label: ends,
         command: no_command(),
         outcome,
-    }
+    })
 }
 
-fn next_state(s: State, byte: u8) -> State {
+fn next_state<W: Write>(out: &mut W, s: State, byte: u8) -> io::Result<State> {
     if s.in_label {
-        label_byte(s, byte)
+        label_byte(out, s, byte)
     } else {
-        command_byte(s, byte)
+        command_byte(out, s, byte)
     }
 }
 
-pub(crate) fn run(script: &[u8]) {
+pub(crate) fn run<W: Write>(out: &mut W, script: &[u8]) -> io::Result<()> {
     let mut state = State {
         in_label: true,
         command: no_command(),
         outcome: commands::run(registers::reset_registers(false), b's', 0, 0),
     };
-    let mut i: usize = 0;
-    while i < script.len() {
-        state = next_state(state, script[i]);
-        i = i + 1;
+    for byte in script {
+        state = next_state(out, state, *byte)?;
     }
+    Ok(())
 }

@@ -88,9 +88,7 @@ fn enabled(cr0: u32, cpsr: u32) -> Registers {
 
 fn load(r: Registers, n: u32) -> Registers {
     let mut next = r;
-    let mut i: u32 = 0;
-    while i < n {
-        i = i + 1;
+    for i in 1..=n {
         next = set(next, DR, i);
     }
     next
@@ -109,20 +107,15 @@ fn receive(r: Registers, w: u16) -> Outcome {
 
 fn arrive(r: Registers, n: u16) -> Outcome {
     let mut next = done(r);
-    let mut i: u16 = 0;
-    while i < n {
-        i = i + 1;
-        let before = next.registers;
-        next = receive(before, i);
+    for i in 1..=n {
+        next = receive(next.registers, i);
     }
     next
 }
 
 fn cycles(r: Registers, n: u32) -> Registers {
     let mut next = r;
-    let mut i: u32 = 0;
-    while i < n {
-        i = i + 1;
+    for _ in 0..n {
         next = transfer::end_cycle(next, false);
     }
     next

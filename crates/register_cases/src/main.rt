@@ -6,11 +6,14 @@ mod commands;
 mod queues;
 mod report;
 
-use libc::STDIN_FILENO;
+use std::io;
+use std::io::{BufWriter, Read, Write};
 
-fn main() {
-    let mut space = io::large_buffer();
-    let n = io::read_full(STDIN_FILENO, &mut space);
-    cases::run(&space[..n]);
-    queues::run();
+fn main(rt: HostRuntime) -> io::Result<()> {
+    let mut script = Vec::new(rt.alloc());
+    rt.reader().read_to_end(&mut script)?;
+    let mut out = BufWriter::new(rt.alloc(), io::writer(&rt))?;
+    cases::run(&mut out, &script)?;
+    queues::run(&mut out)?;
+    out.flush()
 }

@@ -1,21 +1,19 @@
 // Parts of a case's line on standard output.
-use libc::STDOUT_FILENO;
+use std::io;
+use std::io::Write;
 
-pub(crate) fn text(bytes: &[u8]) {
-    io::write_all(STDOUT_FILENO, bytes);
+pub(crate) fn text<W: Write>(out: &mut W, bytes: &[u8]) -> io::Result<()> {
+    out.write_all(bytes)
 }
 
-pub(crate) fn hex(number: u32) {
-    text(b"0x");
-    io::print_hex(STDOUT_FILENO, number as u64, 1);
+pub(crate) fn hex<W: Write>(out: &mut W, number: u32) -> io::Result<()> {
+    write!(out, "{number:#x}")
 }
 
 // 0 means done.
-pub(crate) fn refusal(number: u32) {
+pub(crate) fn refusal<W: Write>(out: &mut W, number: u32) -> io::Result<()> {
     if number == 0 {
-        text(b"done");
-        return;
+        return text(out, b"done");
     }
-    text(b"refused ");
-    io::print_decimal(STDOUT_FILENO, number as u64);
+    write!(out, "refused {number}")
 }

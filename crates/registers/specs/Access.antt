@@ -1,5 +1,5 @@
 -- What a read or a write of a register answers, and the register file after it.
-use Rattle.std.specs.Prelude.{ℕ, ◌*◌, ◌/◌, ◌%◌, ◌≡◌, Bool, not, ◌&&◌, ◌||◌, length, get_or, leb, eqb}
+use Rattle.std.specs.Prelude.{ℕ, ◌*◌, ◌/◌, ◌%◌, ◌≡◌, [], Bool, not, ◌&&◌, ◌||◌, length, get_or, leb, eqb}
 use Rattle.queue.specs.Fifo.{added, rest}
 use Rattle.registers.specs.Choose.{pick}
 use Rattle.registers.specs.Bits.{bit_at, bits_differ}
