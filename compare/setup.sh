@@ -11,7 +11,7 @@ here=$(cd "$(dirname "$0")" && pwd)
 cd "$here/.."
 archive=${PL022_ARCHIVE:-target/staticlib/libpl022.a}
 if [ ! -f "$archive" ]; then
-    echo "$name: no archive $archive; rt staticlib pl022 builds it" >&2
+    echo "$name: no archive $archive; make archive builds it" >&2
     exit 2
 fi
 PL022_ARCHIVE_DIR=$(cd "$(dirname "$archive")" && pwd)

@@ -8,7 +8,7 @@ cd "$(dirname "$0")/.."
 archive=${PL022_ARCHIVE:-target/staticlib/libpl022.a}
 BUILD=${BUILD:-target}
 if [ ! -f "$archive" ]; then
-    echo "install: no archive $archive; rt staticlib pl022 builds it" >&2
+    echo "install: no archive $archive; make archive builds it" >&2
     exit 2
 fi
 for program in pkg-config gcc g++; do

@@ -17,7 +17,7 @@ cd "$(dirname "$0")/.."
 archive=${PL022_ARCHIVE:-target/staticlib/libpl022.a}
 built=${BUILD:-target}/examples
 if [ ! -f "$archive" ]; then
-    echo "examples: no archive $archive; rt staticlib pl022 builds it" >&2
+    echo "examples: no archive $archive; make archive builds it" >&2
     exit 2
 fi
 mkdir -p "$built"

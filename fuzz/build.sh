@@ -8,7 +8,7 @@ archive=${PL022_ARCHIVE:-target/staticlib/libpl022.a}
 program=$1
 shift
 if [ ! -f "$archive" ]; then
-    echo "fuzz: no archive $archive; rt staticlib pl022 builds it" >&2
+    echo "fuzz: no archive $archive; make archive builds it" >&2
     exit 2
 fi
 

@@ -1,6 +1,7 @@
 use Rattle.registers.proofs.BitLaws.{bit_past}
 use borrow.Author.Rules.{rules}
+use native.Mathlib.Omega.{arith}
 use Rattle.registers.proofs.bits.bit_at.Goals as goal
 
 pub returns : goal.returns
-returns c = bit_past c.args.word c.args.place (search rules) c.if-place-lt32.false
+returns c = bit_past c.args.word c.args.place (search rules) (omega arith)
