@@ -123,18 +123,18 @@ module _ (b n : ℕ) where
 abbrev pub low_levels : Bool → Bool → Levels
 low_levels c r = record { clk = c; fss = false; released = r }
 
-pub microwire-levels_even : (n i : ℕ) → n ≡ 2 * i → i < 8 → microwire_levels n ≡ low_levels false false
+pub microwire_levels_even : (n i : ℕ) → n ≡ 2 * i → i < 8 → microwire_levels n ≡ low_levels false false
 unfolding microwire_levels
-microwire-levels_even n i e l = rw (ne_eqb (n % 2) 1 (omega arith), lt-leb 16 n (omega arith))
+microwire_levels_even n i e l = rw (ne_eqb (n % 2) 1 (omega arith), lt-leb 16 n (omega arith))
 
-pub microwire-levels_odd : (n i : ℕ) → n ≡ 2 * i + 1 → i < 8 → microwire_levels n ≡ low_levels true false
+pub microwire_levels_odd : (n i : ℕ) → n ≡ 2 * i + 1 → i < 8 → microwire_levels n ≡ low_levels true false
 unfolding microwire_levels
-microwire-levels_odd n i e l = rw (eq-eqb (n % 2) 1 (omega arith), lt-leb 16 n (omega arith))
+microwire_levels_odd n i e l = rw (eq-eqb (n % 2) 1 (omega arith), lt-leb 16 n (omega arith))
 
-pub microwire-levels-low : (n i : ℕ) → n ≡ 2 * i + 16 → microwire_levels n ≡ low_levels false true
+pub microwire_levels_low : (n i : ℕ) → n ≡ 2 * i + 16 → microwire_levels n ≡ low_levels false true
 unfolding microwire_levels
-microwire-levels-low n i e = rw (ne_eqb (n % 2) 1 (omega arith), le-leb 16 n (omega arith))
+microwire_levels_low n i e = rw (ne_eqb (n % 2) 1 (omega arith), le-leb 16 n (omega arith))
 
-pub microwire-levels-high : (n i : ℕ) → n ≡ 2 * i + 17 → microwire_levels n ≡ low_levels true true
+pub microwire_levels_high : (n i : ℕ) → n ≡ 2 * i + 17 → microwire_levels n ≡ low_levels true true
 unfolding microwire_levels
-microwire-levels-high n i e = rw (eq-eqb (n % 2) 1 (omega arith), le-leb 16 n (omega arith))
+microwire_levels_high n i e = rw (eq-eqb (n % 2) 1 (omega arith), le-leb 16 n (omega arith))

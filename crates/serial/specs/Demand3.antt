@@ -178,7 +178,7 @@ pub record Exchanged (g : PairModel) : Type 0 where
   pub at : Cycles
   pub figure : at ≡ busy_for (settings_of (control_of master g)).format (settings_of (control_of master g)).phase (settings_of (control_of master g)).bits (settings_of (control_of master g)).divisor (length (load master g))
   pub bound : at.0 ≤ (cycles_of (slot_total (settings_of (control_of master g)) (length (load master g))) (settings_of (control_of master g)).divisor).0
-  pub busy-before : (i : ℕ) → i < at.0 → busy master (pair_run i g) ≡ true
+  pub busy_before : (i : ℕ) → i < at.0 → busy master (pair_run i g) ≡ true
   pub free : busy master (pair_run at.0 g) ≡ false
   pub master_received : (j : ℕ) → Received (settings_of (control_of master g)) (at.0 + j) master g
   pub slave_received : (j : ℕ) → Received (settings_of (control_of master g)) (at.0 + j) slave g

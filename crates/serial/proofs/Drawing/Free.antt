@@ -100,8 +100,8 @@ module _ (s : Settings) where
   run_free (suc n) x b = run_free n (cycle s x) (cycle_free x b)
 
   -- so a master that is busy has been busy all along
-  busy-before : (k i : ℕ) (x : Solo) → busy (run k x) ≡ true → i ≤ k → busy (run i x) ≡ true
-  busy-before k i x b l = go (busy (run i x)) refl
+  busy_before : (k i : ℕ) (x : Solo) → busy (run k x) ≡ true → i ≤ k → busy (run i x) ≡ true
+  busy_before k i x b l = go (busy (run i x)) refl
     where
       go : (t : Bool) → busy (run i x) ≡ t → busy (run i x) ≡ true
       go true e = e
@@ -273,7 +273,7 @@ module _ (s : Settings) (d : DeviceModel) (k : Fresh s d) where
       go [] e l = absurd (omega arith)
       go (w ∷ ws) e l =
           let r = frees w ws in
-          busy_is ps (w ∷ ws) e ∙ busy-before s r.last (length ps) (solo (w ∷ ws) (rest_at (shift_without_received d.engine.shift))) r.before (omega (arith, r.next, l))
+          busy_is ps (w ∷ ws) e ∙ busy_before s r.last (length ps) (solo (w ∷ ws) (rest_at (shift_without_received d.engine.shift))) r.before (omega (arith, r.next, l))
 
   pub gets_free : (ps : List Pins) → (busy_cycles s (length d.registers.tx)).0 ≤ length ps → busy_after d ps ≡ false
   gets_free ps = go d.registers.tx refl

@@ -16,7 +16,7 @@ use Rattle.frames.specs.Master.{chain_step}
 use Rattle.serial.specs.Drawing.{low, idle, bit_lines, quiet, quiets, chain_m, frames_m}
 use Rattle.serial.proofs.Cycles.{waits_cons}
 use Rattle.serial.proofs.WithinSlot.{sending, shifted}
-use Rattle.serial.proofs.Events.{microwire_drive, microwire_hold, microwire_wait, microwire-low, microwire_capture, microwire_chain, microwire_release, low_levels, microwire-levels_even, microwire-levels_odd, microwire-levels-low, microwire-levels-high}
+use Rattle.serial.proofs.Events.{microwire_drive, microwire_hold, microwire_wait, microwire-low, microwire_capture, microwire_chain, microwire_release, low_levels, microwire_levels_even, microwire_levels_odd, microwire_levels_low, microwire_levels_high}
 use Rattle.serial.proofs.Unreceived.{step_without_received}
 use Rattle.serial.proofs.Drawing.Solo.{Solo}
 use Rattle.serial.proofs.Drawing.Slot.{fixed, solo, on, rest_at, Slot, Draws, done, draw, draws_end, draws_same, slot_on, slot_start, capture_move, word_run, Over, over, Until, until_done, until_draw, until_then}
@@ -54,14 +54,14 @@ module _ (s : Settings) (phase : Bool) where
   drive_slot w tx c d l m =
       slot_on S (2 * c) 0 d w tx (Drive c) (2 * c) 0 (bit_of 8 w c) w false (low S false (bit_of 8 w c)) (2 * c + 1)
       (microwire_drive b (2 * c) c refl l m) refl
-      (lines_at_lem (2 * c) 0 (bit_of 8 w c) w (low_levels false false) (microwire-levels_even (2 * c) c refl m)) (omega arith) refl
+      (lines_at_lem (2 * c) 0 (bit_of 8 w c) w (low_levels false false) (microwire_levels_even (2 * c) c refl m)) (omega arith) refl
 
   hold_slot : (w : ℕ) (tx : List ℕ) (c : ℕ) (d : Bool) → c < 8 → Slot S (mid w tx c d) (low S true d) (st w tx (c + 1) d)
   unfolding event_of last_slot
   hold_slot w tx c d m =
       slot_on S (2 * c + 1) 0 d w tx Pause (2 * c + 1) 0 d w false (low S true d) (2 * (c + 1))
       (microwire_hold b (2 * c + 1) c refl m) refl
-      (lines_at_lem (2 * c + 1) 0 d w (low_levels true false) (microwire-levels_odd (2 * c + 1) c refl m)) (omega arith) (omega arith)
+      (lines_at_lem (2 * c + 1) 0 d w (low_levels true false) (microwire_levels_odd (2 * c + 1) c refl m)) (omega arith) (omega arith)
 
   -- the control bits, however the first comes on TXD
   control_draws : (w : ℕ) (tx : List ℕ) (x : Solo) → Slot S x (low S false (bit_of 8 w 0)) (on 1 0 (bit_of 8 w 0) w tx)
@@ -84,14 +84,14 @@ module _ (s : Settings) (phase : Bool) where
   low_slot w tx j m =
       slot_on S (2 * j + 18) j false w tx Pause (2 * j + 18) j false w false (quiet false) (2 * j + 19)
       (microwire-low b (2 * j + 18) j refl m) refl
-      (lines_at_lem (2 * j + 18) j false w (low_levels false true) (microwire-levels-low (2 * j + 18) (j + 1) (omega arith))) (omega arith) (omega arith)
+      (lines_at_lem (2 * j + 18) j false w (low_levels false true) (microwire_levels_low (2 * j + 18) (j + 1) (omega arith))) (omega arith) (omega arith)
 
   capture_slot : (w : ℕ) (tx : List ℕ) (j : ℕ) → j < b → Slot S (on (2 * j + 19) j false w tx) (quiet true) (on (2 * (j + 1) + 18) (j + 1) false w tx)
   unfolding event_of last_slot
   capture_slot w tx j m =
       slot_on S (2 * j + 19) j false w tx Capture (2 * j + 19) (j + 1) false w false (quiet true) (2 * (j + 1) + 18)
       (microwire_capture b (2 * j + 19) j refl m) (capture_move S b _ (2 * j + 19) j false w m)
-      (lines_at_lem (2 * j + 19) (j + 1) false w (low_levels true true) (microwire-levels-high (2 * j + 19) (j + 1) (omega arith))) (omega arith) (omega arith)
+      (lines_at_lem (2 * j + 19) (j + 1) false w (low_levels true true) (microwire_levels_high (2 * j + 19) (j + 1) (omega arith))) (omega arith) (omega arith)
 
   data_draws : (w : ℕ) (tx : List ℕ) (i j : ℕ) → j + i ≡ b → Draws S (quiets i) (on (2 * j + 18) j false w tx) (on (2 * b + 18) b false w tx)
   data_draws w tx zero j e =
@@ -109,7 +109,7 @@ module _ (s : Settings) (phase : Bool) where
   end_slot w =
       slot_on S (2 * b + 18) b false w [] (Chain (slots 0)) (2 * b + 18) b false w false (quiet false) (2 * b + 19)
       (microwire_chain b (2 * b + 18) refl) refl
-      (lines_at_lem (2 * b + 18) b false w (low_levels false true) (microwire-levels-low (2 * b + 18) (b + 1) (omega arith))) (omega arith) (omega arith)
+      (lines_at_lem (2 * b + 18) b false w (low_levels false true) (microwire_levels_low (2 * b + 18) (b + 1) (omega arith))) (omega arith) (omega arith)
 
   is_over : (w : ℕ) → Over S (idle S ∷ idle S ∷ []) (on (2 * b + 19) b false w [])
   unfolding event_of last_slot

@@ -167,7 +167,7 @@ module _ (f : Format) (phase p : Bool) (b h k : ℕ) (o : Bool) (c₁ c₂ : Con
         at = busy_cycles s n;
         figure = refl;
         bound = busy_bound s g.first fresh n;
-        busy-before = pair_busy s g fresh;
+        busy_before = pair_busy s g fresh;
         free = pair_free s g fresh (busy_cycles s n).0 (le_refl _);
         master_received = λ j. subst (λ (u : Settings). Received u ((busy_cycles u n).0 + j) master g) (sym P.master) (master_gets j);
         slave_received = λ j. subst (λ (u : Settings). Received u ((busy_cycles u n).0 + j) slave g) (sym P.master) (slave_gets j);

@@ -23,7 +23,7 @@ use Rattle.serial.specs.Pair.{wire}
 use Rattle.serial.proofs.Cycles.{waits, waits_cons}
 use Rattle.serial.proofs.Trace.{Trace, none, iterate, trace_count, trace_then, trace_end}
 use Rattle.serial.proofs.Top.{top, top_zero}
-use Rattle.serial.proofs.Events.{low_levels, microwire_drive, microwire_hold, microwire_wait, microwire-low, microwire_capture, microwire_chain, microwire_release, microwire-levels_even, microwire-levels_odd, microwire-levels-low, microwire-levels-high}
+use Rattle.serial.proofs.Events.{low_levels, microwire_drive, microwire_hold, microwire_wait, microwire-low, microwire_capture, microwire_chain, microwire_release, microwire_levels_even, microwire_levels_odd, microwire_levels_low, microwire_levels_high}
 use Rattle.serial.proofs.WithinSlot.{sending, shifted}
 use Rattle.serial.proofs.Exchange.Core.{Receiver, Side, plain, push, moved, acted, slave_side, core_cycle}
 use Rattle.serial.proofs.Exchange.Settle.{Two, slot_step, rested}
@@ -182,7 +182,7 @@ module _ (phase : Bool) (b h : ℕ) where
       let x : Side = record { tx = w ∷ ws; rx = q; engine = cleared; lines = hidden } in
       let r : Step = act sm cleared (waits (w ∷ ws)) w (data_bit sm (master_txd sm cleared) d) BeginDrive in
       ap (λ (t : Bool). moved (pick t r (no_word cleared)) x (master_lines sm (pick t r (no_word cleared)).engine)) (waits_cons w ws)
-      ∙ ap (moved r x) (lines_at_lem 0 (shifted 0 (bit_of 8 w 0) w 0) false false (microwire-levels_even 0 0 refl (omega arith)))
+      ∙ ap (moved r x) (lines_at_lem 0 (shifted 0 (bit_of 8 w 0) w 0) false false (microwire_levels_even 0 0 refl (omega arith)))
 
   open_slot : (w : ℕ) (ws : List ℕ) (q : Receiver) (vs : List ℕ) (r : Receiver) → Slot sm ss (starts hidden (holding (w ∷ ws) q vs r)) (opened w ws q) (driven_at w (holding ws q vs r) false 0 1)
   unfolding wire last_slot slave_lines slave_step microwire_slave microwire_edges
@@ -204,7 +204,7 @@ module _ (phase : Bool) (b h : ℕ) where
     unfolding event_of
     holds c n d e l =
         let x = shifted 0 (bit_of 8 w c) w 0 in
-        acted_by sm n x k.mtx k.mrx _ _ d Pause (no_word (sending n x)) (microwire_hold b n c e l) refl (lines_at_lem n x true false (microwire-levels_odd n c e l))
+        acted_by sm n x k.mtx k.mrx _ _ d Pause (no_word (sending n x)) (microwire_hold b n c e l) refl (lines_at_lem n x true false (microwire_levels_odd n c e l))
 
     latch_slot : (f : Bool) (c n : ℕ) → n ≡ 2 * c + 1 → c + 1 < 8 → Slot sm ss (driven_at w k f c n) (held c n) (latched_at w k c (top 8 w (c + 1)) (n + 1))
     unfolding wire last_slot slave_lines
@@ -231,7 +231,7 @@ module _ (phase : Bool) (b h : ℕ) where
         let z = driven_at w k true (c + 1) (n + 1) in
         slot_of sm ss (latched_at w k c (top 8 w (c + 1)) n) (record { tx = k.mtx; rx = k.mrx; engine = sending n x; lines = in_frame false (bit_of 8 w (c + 1)) }) z.m z.s z.s
         (acted_by sm n (shifted 0 (bit_of 8 w c) w 0) k.mtx k.mrx _ _ false (Drive (c + 1)) (no_word (sending n x)) (microwire_drive b n (c + 1) e (omega arith) l) refl
-        (lines_at_lem n x false false (microwire-levels_even n (c + 1) e l)))
+        (lines_at_lem n x false false (microwire_levels_even n (c + 1) e l)))
         (next_in sm n x k.mtx k.mrx _ (omega arith))
         (slave_by ss _ _ (latched_at w k c (top 8 w (c + 1)) n).s (no_word (chosen 0 true y)) (chosen 0 true y) hidden (slave_waits true y (bit_of 8 w c) (bit_of 8 w (c + 1)) false false _) (ended _) refl)
         (calm k.stx k.srx 0 true y hidden false (bit_of 8 w (c + 1)) false refl) refl
@@ -278,7 +278,7 @@ module _ (phase : Bool) (b h : ℕ) where
       let x = shifted 0 false w 0 in
       let y = shifted 8 false 0 (cut 8 w) in
       slot_of sm ss (latched_at w k 7 (cut 8 w) 16) (record { tx = k.mtx; rx = k.mrx; engine = sending 16 x; lines = waiting false }) (quiet_at w k).m (quiet_at w k).s (quiet_at w k).s
-      (acted_by sm 16 (shifted 0 (bit_of 8 w 7) w 0) k.mtx k.mrx _ _ false Quiet (no_word (sending 16 x)) refl refl (lines_at_lem 16 x false true (microwire-levels-low 16 0 refl)))
+      (acted_by sm 16 (shifted 0 (bit_of 8 w 7) w 0) k.mtx k.mrx _ _ false Quiet (no_word (sending 16 x)) refl refl (lines_at_lem 16 x false true (microwire_levels_low 16 0 refl)))
       (next_in sm 16 x k.mtx k.mrx _ (omega arith))
       (slave_by ss _ _ (latched_at w k 7 (cut 8 w) 16).s (no_word (chosen 0 true y)) (chosen 0 true y) hidden (slave_waits true y (bit_of 8 w 7) false false true _) (ended _) refl)
       (calm k.stx k.srx 0 true y hidden false false true refl) refl
@@ -292,7 +292,7 @@ module _ (phase : Bool) (b h : ℕ) where
       let z : Side = record { tx = rest vs; rx = r; engine = chosen 17 true y; lines = hidden } in
       rw (top_zero b (front vs))
       (slot_of sm ss (quiet_at w (holding ws q vs r)) (record { tx = ws; rx = q; engine = sending 17 x; lines = waiting true }) (record { tx = ws; rx = q; engine = sending 18 x; lines = waiting true }) z z
-      (acted_by sm 17 x ws q _ _ false Pause (no_word (sending 17 x)) (microwire_wait b 17 refl) refl (lines_at_lem 17 x true true (microwire-levels-high 17 0 refl)))
+      (acted_by sm 17 x ws q _ _ false Pause (no_word (sending 17 x)) (microwire_wait b 17 refl) refl (lines_at_lem 17 x true true (microwire_levels_high 17 0 refl)))
       (next_in sm 17 x ws q _ (omega arith))
       (slave_by ss _ _ (quiet_at w (holding ws q vs r)).s (begun (chosen 17 true (shifted 8 false 0 (cut 8 w))) y) (chosen 17 true y) hidden (slave_takes 0 (cut 8 w) (front vs)) (ended _) refl)
       (calm (rest vs) r 17 true y hidden true false true refl) refl)
@@ -306,7 +306,7 @@ module _ (phase : Bool) (b h : ℕ) where
         let y = shifted 0 (bit_of b v j) v 0 in
         let z = shown_at w v k j (i + 1) in
         slot_of sm ss (risen_at w v k j i d l) (record { tx = k.mtx; rx = k.mrx; engine = sending (i + 1) x; lines = waiting false }) z.m z.s z.s
-        (acted_by sm (i + 1) x k.mtx k.mrx _ _ _ Pause (no_word (sending (i + 1) x)) (microwire-low b (i + 1) j (omega arith) g) refl (lines_at_lem (i + 1) x false true (microwire-levels-low (i + 1) (j + 1) (omega arith))))
+        (acted_by sm (i + 1) x k.mtx k.mrx _ _ _ Pause (no_word (sending (i + 1) x)) (microwire-low b (i + 1) j (omega arith) g) refl (lines_at_lem (i + 1) x false true (microwire_levels_low (i + 1) (j + 1) (omega arith))))
         (next_in sm (i + 1) x k.mtx k.mrx _ (omega arith))
         (slave_by ss _ _ (risen_at w v k j i d l).s (no_word (chosen (i + 1) true y)) (chosen (i + 1) true y) (shown (bit_of b v j)) (slave_drives i j (shifted 0 d v 0) _ e g) (ended _) (lines_shown (i + 1) true y (omega arith)))
         (calm k.stx k.srx (i + 1) true y (shown (bit_of b v j)) false false true (lines_shown (i + 1) true y (omega arith))) refl
@@ -322,7 +322,7 @@ module _ (phase : Bool) (b h : ℕ) where
         slot_of sm ss (shown_at w v k j i) (record { tx = k.mtx; rx = k.mrx; engine = sending (i + 1) x; lines = waiting true }) z.m z.s z.s
         (acted_by sm (i + 1) x0 k.mtx k.mrx _ _ (bit_of b v j && true) Capture (no_word (sending (i + 1) x)) (microwire_capture b (i + 1) j (omega arith) (omega arith))
         (capture_in b (bit_of b v j && true) (sending (i + 1) x0) g ∙ ap (λ (r : ℕ). no_word (sending (i + 1) (shifted (j + 1) false w r))) (next_bit b v j (omega arith) m))
-        (lines_at_lem (i + 1) x true true (microwire-levels-high (i + 1) (j + 1) (omega arith))))
+        (lines_at_lem (i + 1) x true true (microwire_levels_high (i + 1) (j + 1) (omega arith))))
         (next_in sm (i + 1) x k.mtx k.mrx _ (omega arith))
         (slave_by ss _ _ (shown_at w v k j i).s (no_word (chosen (i + 1) true y)) (chosen (i + 1) true y) (shown (bit_of b v j)) (slave_rises i j y _ false e (omega arith) (lt-leb (17 + 2 * b) (i + 1) (omega arith))) (ended _) (lines_shown (i + 1) true y (omega arith)))
         (calm k.stx k.srx (i + 1) true y (shown (bit_of b v j)) true false true (lines_shown (i + 1) true y (omega arith))) refl
@@ -350,7 +350,7 @@ module _ (phase : Bool) (b h : ℕ) where
         slot_of sm ss (shown_at w v k j i) (record { tx = k.mtx; rx = push (cut b v) k.mrx; engine = sending (i + 1) x; lines = waiting true }) z.m z.s z.s
         (acted_by sm (i + 1) x0 k.mtx k.mrx _ _ (bit_of b v j && true) Capture (completed (sending (i + 1) x0) (cut b v)) (microwire_capture b (i + 1) j (omega arith) (omega arith))
         (capture_last b (bit_of b v j && true) (sending (i + 1) x0) v g (last_bit_lem b v j g m))
-        (lines_at_lem (i + 1) x true true (microwire-levels-high (i + 1) (j + 1) (omega arith))))
+        (lines_at_lem (i + 1) x true true (microwire_levels_high (i + 1) (j + 1) (omega arith))))
         (next_in sm (i + 1) x k.mtx (push (cut b v) k.mrx) _ (omega arith))
         (slave_by ss _ _ (shown_at w v k j i).s (no_word (chosen (i + 1) false y)) (chosen (i + 1) false y) (shown (bit_of b v j)) (slave_rises i j y _ true e (omega arith) (le-leb (17 + 2 * b) (i + 1) (omega arith))) (ended _) (lines_shown (i + 1) false y (omega arith)))
         (calm k.stx k.srx (i + 1) false y (shown (bit_of b v j)) true false true (lines_shown (i + 1) false y (omega arith))) refl
@@ -369,7 +369,7 @@ module _ (phase : Bool) (b h : ℕ) where
       (slot_of sm ss (done_at w v k j i) (opened u ws q) (record { tx = ws; rx = q; engine = sending 1 x; lines = in_frame false (bit_of 8 u 0) }) y y
       (acted_by sm (i + 1) x0 (u ∷ ws) q _ _ (bit_of b v j && true) (Chain (slots 0)) (begun (sending 0 x0) x) (microwire_chain b (i + 1) (omega arith))
       (ap (λ (t : Bool). pick t (begun (sending 0 x0) x) (no_word (sending (i + 1) x0))) (waits_cons u ws))
-      (lines_at_lem 0 x false false (microwire-levels_even 0 0 refl (omega arith))))
+      (lines_at_lem 0 x false false (microwire_levels_even 0 0 refl (omega arith))))
       (next_in sm 0 x ws q _ (omega arith))
       (slave_by ss _ _ (done_at w v k j i).s (no_word ready) ready hidden (slave_ends i (shifted 0 (bit_of b v j) v 0) (bit_of 8 u 0) false _ e) (ended _) refl)
       (calm vs r 0 false (shifted 0 false 0 0) hidden false (bit_of 8 u 0) false refl) refl)
@@ -383,7 +383,7 @@ module _ (phase : Bool) (b h : ℕ) where
       let x = shifted (j + 1) false w (cut b v) in
       let z = over_at x k (i + 1 + 1) in
       slot_of sm ss (done_at w v k j i) (record { tx = []; rx = q; engine = sending (i + 1) x; lines = waiting false }) z.m z.s z.s
-      (acted_by sm (i + 1) x [] q _ _ (bit_of b v j && true) (Chain (slots 0)) (no_word (sending (i + 1) x)) (microwire_chain b (i + 1) (omega arith)) refl (lines_at_lem (i + 1) x false true (microwire-levels-low (i + 1) (b + 1) (omega arith))))
+      (acted_by sm (i + 1) x [] q _ _ (bit_of b v j && true) (Chain (slots 0)) (no_word (sending (i + 1) x)) (microwire_chain b (i + 1) (omega arith)) refl (lines_at_lem (i + 1) x false true (microwire_levels_low (i + 1) (b + 1) (omega arith))))
       (next_in sm (i + 1) x [] q _ (omega arith))
       (slave_by ss _ _ (done_at w v k j i).s (no_word ready) ready hidden (slave_ends i (shifted 0 (bit_of b v j) v 0) false true _ e) (ended _) refl)
       (calm vs r 0 false (shifted 0 false 0 0) hidden false false true refl) refl

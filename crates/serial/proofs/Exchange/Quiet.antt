@@ -19,11 +19,11 @@ use Rattle.frames.specs.declared.engine.Engine.{Engine}
 use Rattle.frames.specs.declared.engine.Step.{Step}
 use Rattle.frames.specs.declared.lines.Pins.{Pins}
 
-ended-on_twice : (f : Format) (w : ℕ) (e : Engine) → pick ((ended_on f e).frame && leb w (ended_on f e).shift.captured) (ended_on f (ended_on f e)) (ended_on f e) ≡ ended_on f e
-ended-on_twice Motorola w e = refl
-ended-on_twice Ti w e = refl
-ended-on_twice Microwire w e = pick-both (λ (x : Engine). x ≡ e) (e.frame && leb w e.shift.captured) _ _ (λ _. refl) (λ _. refl)
-ended-on_twice Reserved w e = refl
+ended_on_twice : (f : Format) (w : ℕ) (e : Engine) → pick ((ended_on f e).frame && leb w (ended_on f e).shift.captured) (ended_on f (ended_on f e)) (ended_on f e) ≡ ended_on f e
+ended_on_twice Motorola w e = refl
+ended_on_twice Ti w e = refl
+ended_on_twice Microwire w e = pick-both (λ (x : Engine). x ≡ e) (e.frame && leb w e.shift.captured) _ _ (λ _. refl) (λ _. refl)
+ended_on_twice Reserved w e = refl
 
 -- what has ended stays ended
 ended_twice : (s : Settings) (e : Engine) → slave_end s (slave_end s e) ≡ slave_end s e
@@ -32,7 +32,7 @@ ended_twice s e = go (word_over s e) refl
   where
     go : (t : Bool) → word_over s e ≡ t
         → pick (word_over s (pick t (ended_on s.format e) e)) (ended_on s.format (pick t (ended_on s.format e) e)) (pick t (ended_on s.format e) e) ≡ pick t (ended_on s.format e) e
-    go true h = ended-on_twice s.format (capture_width s) e
+    go true h = ended_on_twice s.format (capture_width s) e
     go false h = ap (λ (u : Bool). pick u (ended_on s.format e) e) h
 
 -- a cycle without an edge
