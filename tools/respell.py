@@ -1,9 +1,10 @@
 #!/usr/bin/env python3
 """Brings the repository's own names of definitions, fields and lemmas to the spelling of today's Rattle.
 
-usage: tools/respell.py [DRY]     at the top of a repository that port.py has just turned
+usage: tools/respell.py [DRY]     at the top of a repository that port.py has turned
 
-A definition, a field or a lemma is in snake case; a dash stays between two names of functions, as in `width_of-zero`.
+A definition, a field or a lemma is in snake case; a dash stays in the name of a lemma that is made of names of definitions of specs/ or
+of the library alone, as in `length-drop`.
 Functions of src/, exported names, types, modules and generated names keep theirs. With an argument nothing is written.
 """
 
@@ -35,8 +36,8 @@ def sources():
 
 
 def declared():
-    """Each declared name with whether it is a definition of specs/, without a dash."""
-    names, functions = {}, set(LIBRARY)
+    """Each declared name; the definitions of specs/, but for the laws in files named Inside; the fields of specs/."""
+    names, functions, fields = {}, set(LIBRARY), set()
     for p in sources():
         in_specs = "/specs/" in p
         for line in open(p, encoding="utf-8"):
@@ -45,22 +46,23 @@ def declared():
                 continue
             for n in m.group(2).split():
                 names.setdefault(n, set()).add("specs" if in_specs else "proofs")
-                if "-" not in n and (not m.group(1)):
+                if in_specs and "-" not in n and not m.group(1) and os.path.basename(p) != "Inside.antt":
                     functions.add(n)
-    return names, functions
+                if in_specs and m.group(1):
+                    fields.add(n)
+    return names, functions, fields
 
 
-def renamed(names, functions):
+def renamed(names, functions, fields):
     turned = {}
     for n in sorted(names):
         if not re.match(r"[a-z]", n) or n in ("abbrev", "pub", "unfoldable"):
             continue
         parts = n.split("-")
-        to = snake(parts[0])
-        for a, b in zip(parts, parts[1:]):
-            to += ("-" if a in functions and b in functions else "_") + snake(b)
+        joined = n not in fields and all(p in functions for p in parts)
+        to = ("-" if joined else "_").join(snake(p) for p in parts)
         turned[n] = to
-    # names that fall together: the one in camel case is the definition, the other a lemma that gets a suffix
+    # names that fall together: one is the definition, the other a lemma that gets a suffix
     by = {}
     for n, to in turned.items():
         by.setdefault(to, []).append(n)
@@ -68,7 +70,7 @@ def renamed(names, functions):
         if len(ns) > 1:
             print("fall together:", to, ns)
             for n in ns:
-                if not re.search("[A-Z]", n):
+                if n not in functions and not re.search("[A-Z]", n):
                     turned[n] = to + SUFFIX
     return {n: to for n, to in turned.items() if n != to and n not in KEPT}
 
@@ -92,7 +94,7 @@ def path(text, m):
 def generated(text, m):
     """A step of a proof by hand, as in `c.before.used-word`, or the goal's own name."""
     chain = chain_of(text, m)
-    return path(text, m) or bool(re.match(r"(c|w)\.|tie\.", chain)) and ".ensures" not in chain
+    return path(text, m) or bool(re.match(r"(c|w|l)\.|tie\.|goal\.", chain)) and ".ensures" not in chain
 
 
 def swapped(text, table, skip=path):
@@ -101,8 +103,9 @@ def swapped(text, table, skip=path):
 
 def main():
     dry = len(sys.argv) > 1
-    names, functions = declared()
-    table = renamed(names, functions)
+    stated = set(sources())
+    names, functions, fields = declared()
+    table = renamed(names, functions, fields)
     for p in sorted(glob.glob("crates/*/**/*", recursive=True)):
         if not os.path.isfile(p) or "/out/" in p or not p.endswith((".antt", ".rt", ".edit")):
             continue
@@ -110,9 +113,9 @@ def main():
         if p.endswith(".rt"):
             camel = {n: to for n, to in table.items() if re.search("[A-Z]", n) and "-" not in n}
             new = swapped(text, camel)
-        elif os.path.basename(p) == "Proof.antt":
+        elif os.path.basename(p) in ("Proof.antt", "Answers.antt", "Invariants.antt") and p not in stated:
             # what the proof of a function declares keeps its name
-            own = set(re.findall(r"^(?:pub )?(" + WORD + r") :", text, re.M))
+            own = set(re.findall(r"^(?:abbrev )?(?:pub )?(" + WORD + r") :", text, re.M))
             new = swapped(text, {n: to for n, to in table.items() if n not in own}, generated)
         elif p.endswith(".edit"):
             # only edits of definitions have such names

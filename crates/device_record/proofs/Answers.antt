@@ -55,9 +55,9 @@ module _ (b : List ℕ) (edition n : ℕ) (e : n ≡ reset_refusal b edition) wh
 
 -- Accesses -------------------------------------------------------------------------------------------------------------
 
-record-passes : (b : List ℕ) → record_refusal b ≡ 0 → eqb (length b) 128 ≡ true
+record_passes : (b : List ℕ) → record_refusal b ≡ 0 → eqb (length b) 128 ≡ true
 unfolding record_refusal
-record-passes b z = (passes (eqb (length b) 128) 10 (pick (not (sound_bytes b)) 9 0) (omega arith) z).0
+record_passes b z = (passes (eqb (length b) 128) 10 (pick (not (sound_bytes b)) 9 0) (omega arith) z).0
 
 module _ (b : List ℕ) (o n : ℕ) (e : n ≡ record_refusal b) where
   read_answer_lem : (a : Answer) → n ≡ 0 → read_answer_of (decode b) o ≡ a → read_call b o ≡ a
@@ -68,7 +68,7 @@ module _ (b : List ℕ) (o n : ℕ) (e : n ≡ record_refusal b) where
     pub read_done_lem : (b' : List ℕ) (w : ℕ) → r.answer ≡ Word w → b' ≡ encode (device_of r.device) b → ReadCall b o r.answer b'
     read_done_lem b' w q k =
         let a = read_answer_lem (Word w) t (rw (← h) (sym g.answer ∙ q)) in
-        let l = record-passes b (sym e ∙ t) in
+        let l = record_passes b (sym e ∙ t) in
         record { answer = q ∙ sym a; left = rw a (stored b b' (device_of r.device) (read_device (decode b) o) l k (rw (← h) g.device)) }
 
     pub read_refused : (k : ℕ) → r.answer ≡ Refused k → ReadCall b o r.answer b
@@ -93,7 +93,7 @@ module _ (b : List ℕ) (o v n : ℕ) (e : n ≡ record_refusal b) where
     pub write_done_lem : (b' : List ℕ) → r.refusal ≡ 0 → b' ≡ encode (device_of r.device) b → WriteCall b o v r.refusal b'
     write_done_lem b' q k =
         let z : write_call b o v ≡ 0 = sym write_refusal_lem ∙ q in
-        let l = record-passes b (sym e ∙ t) in
+        let l = record_passes b (sym e ∙ t) in
         record { refusal = write_refusal_lem; left = rw z (stored b b' (device_of r.device) (write_device (decode b) o v) l k (rw (← h) g.device)) }
 
     pub write_refused : (r.refusal ≡ 0 → ⊥) → WriteCall b o v r.refusal b
@@ -105,9 +105,9 @@ module _ (b : List ℕ) (o v n : ℕ) (e : n ≡ record_refusal b) where
 
 -- Runs -----------------------------------------------------------------------------------------------------------------
 
-pub run-passes : (b i o : List ℕ) → run_refusal b i o ≡ 0 → (eqb (length b) 128 ≡ true) × (length i ≡ length o) × (sound_bytes b ≡ true)
+pub run_passes : (b i o : List ℕ) → run_refusal b i o ≡ 0 → (eqb (length b) 128 ≡ true) × (length i ≡ length o) × (sound_bytes b ≡ true)
 unfolding run_refusal
-run-passes b i o z =
+run_passes b i o z =
     let p = passes (eqb (length b) 128) 10 (pick (not (eqb (length i) (length o))) 11 (pick (not (inputs_fit i)) 12 (pick (not (sound_bytes b)) 9 0))) (omega arith) z in
     let q = passes (eqb (length i) (length o)) 11 (pick (not (inputs_fit i)) 12 (pick (not (sound_bytes b)) 9 0)) (omega arith) p.1 in
     let r = passes (inputs_fit i) 12 (pick (not (sound_bytes b)) 9 0) (omega arith) q.1 in
@@ -119,7 +119,7 @@ module _ (stop : Stop) (b i o : List ℕ) (n : ℕ) (e : n ≡ run_refusal b i o
   unfolding run_count run_lost
   run-done s r h b' o' t k g =
       let z : run_refusal b i o ≡ 0 = sym e ∙ t in
-      let p = run-passes b i o z in
+      let p = run_passes b i o z in
       let a = served_all i o p.1 in
       record {
         refusal = sym z;
@@ -150,7 +150,7 @@ module _ (b i o : List ℕ) where
   output_all = go (eqb (run_refusal b i o) 0) refl
     where
       go : (t : Bool) → eqb (run_refusal b i o) 0 ≡ t → pick t (written (decode b) (run_count Never b i o) i o) o ≡ pick t (outputs (decode b) i) o
-      go true k = rw (count_all (run_refusal b i o) refl k) (written_all (decode b) i o (run-passes b i o (eqb-true (run_refusal b i o) 0 k)).1)
+      go true k = rw (count_all (run_refusal b i o) refl k) (written_all (decode b) i o (run_passes b i o (eqb-true (run_refusal b i o) 0 k)).1)
       go false k = refl
 
   lost_all : run_lost Never b i o ≡ pick (eqb (run_refusal b i o) 0) (lost_with (decode b) i) []

@@ -104,8 +104,8 @@ byte_high (w ∷ ws) zero h = refl
 byte_high (w ∷ ws) (suc i) h = let e : 2 * suc i + 1 ≡ suc (suc (2 * i + 1)) = omega arith in rw e (byte_high ws i (omega arith))
 
 -- a turn puts the two bytes of a word
-pub words-turn : (from : List ℕ) (at : ℕ) (ws to : List ℕ) (i : ℕ) → Putting from at (word_bytes ws) to (2 * i) → i < length ws → Putting from at (word_bytes ws) (set (set to (at + 2 * i) (low (get_or ws i 0))) (at + 2 * i + 1) (high (get_or ws i 0))) (2 * (i + 1))
-words-turn from at ws to i k h =
+pub words_turn : (from : List ℕ) (at : ℕ) (ws to : List ℕ) (i : ℕ) → Putting from at (word_bytes ws) to (2 * i) → i < length ws → Putting from at (word_bytes ws) (set (set to (at + 2 * i) (low (get_or ws i 0))) (at + 2 * i + 1) (high (get_or ws i 0))) (2 * (i + 1))
+words_turn from at ws to i k h =
     let l = length-words ws in
     let first = rw (byte_low ws i h) at (put_turn from at (word_bytes ws) to (2 * i) k (omega arith)) in
     let second = rw (byte_high ws i h) at (put_turn from at (word_bytes ws) (set to (at + 2 * i) (low (get_or ws i 0))) (2 * i + 1) first (omega arith)) in
@@ -135,14 +135,14 @@ module _ (b : List ℕ) (i : ℕ) where
   word_there (suc (suc (suc (suc (suc (suc (suc zero))))))) h = refl
   word_there (suc (suc (suc (suc (suc (suc (suc (suc k)))))))) h = absurd (omega arith)
 
-  length-eight : length (words_at b i) ≡ 8
+  length_eight : length (words_at b i) ≡ 8
   unfolding words_at
-  length-eight = refl
+  length_eight = refl
 
   pub read_turn : (ws : List ℕ) (k w : ℕ) → Reading b i ws k → k < 8 → w ≡ word_at b (i + 2 * k) → Reading b i (set ws k w) (k + 1)
   read_turn ws k w r h e =
       let l = r.long in
-      let l8 = length-eight in
+      let l8 = length_eight in
       record {
         within = omega arith;
         long = length-set ws k w ∙ r.long;
@@ -155,7 +155,7 @@ module _ (b : List ℕ) (i : ℕ) where
   read_end ws k r h =
       let w = r.within in
       let l = r.long in
-      let l8 = length-eight in
+      let l8 = length_eight in
       sym (take_all k ws (omega arith)) ∙ (r.front ∙ take_all k (words_at b i) (omega arith))
 
 -- `all` says whether a and b agree before i

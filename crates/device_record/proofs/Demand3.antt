@@ -15,14 +15,14 @@ use Rattle.serial.proofs.Accesses.{read_same, write_same}
 use Rattle.serial.specs.Sound.{sound_device, device_fits}
 use Rattle.serial.proofs.Soundness.{sound_read, fits_read, sound_write, fits_write}
 use Rattle.device_record.specs.Record.{encoded, decode, sound_bytes}
-use Rattle.device_record.proofs.RoundTrip.{length-sound, decode-encode, decode_injective, sound-encode, sound-decode, fits_decode}
+use Rattle.device_record.proofs.RoundTrip.{length_sound, decode-encode, decode_injective, sound_encode, sound_decode, fits_decode}
 use Rattle.serial.specs.Pair.{PairModel, pair_cycle, pair_run}
 use Rattle.serial.proofs.Exchange.Claim.{demand3}
 use Rattle.serial.proofs.Drawing.Enabled.{enabling_injective}
 use Rattle.frames.specs.Slots.{width_of}
 use Rattle.frames.specs.Lines.{pins_of}
 use Rattle.device_record.specs.Run.{outputs}
-use Rattle.device_record.proofs.Histories.{good-decode, good_pair_run}
+use Rattle.device_record.proofs.Histories.{good_decode, good_pair_run}
 use Rattle.device_record.specs.Calls.{left_by, record_refusal, read_call, read_left, write_call, write_left, pair_refusal, pair_after, Records}
 use Rattle.device_record.specs.Demand3.{devices_of, run_bytes, play_bytes, plays_bytes, SoundRecords, steps, Demand3Records, LastSentenceRecords}
 use Rattle.frames.specs.Bits.{cut}
@@ -41,30 +41,30 @@ left_is : (n : ℕ) (d : DeviceModel) (b : List ℕ) → sound_bytes b ≡ true 
 left_is n d b s sd fd same = go (eqb n 0) refl
   where
     go : (t : Bool) → eqb n 0 ≡ t → Left (pick t (encoded d) b) d
-    go true e = record { sound = sound-encode d sd fd; is = decode-encode d sd fd }
+    go true e = record { sound = sound_encode d sd fd; is = decode-encode d sd fd }
     go false e = record { sound = s; is = sym (same e) }
 
 -- a sound record is not refused by its bytes
 record-done : (b : List ℕ) → sound_bytes b ≡ true → record_refusal b ≡ 0
 unfolding record_refusal
-record-done b s = rw (eq-eqb (length b) 128 (length-sound b s), s)
+record-done b s = rw (eq-eqb (length b) 128 (length_sound b s), s)
 
 pub pair_done : (b c : List ℕ) → sound_bytes b ≡ true → sound_bytes c ≡ true → pair_refusal b c ≡ 0
 unfolding pair_refusal
-pair_done b c s t = rw (eq-eqb (length b) 128 (length-sound b s), eq-eqb (length c) 128 (length-sound c t), s, t)
+pair_done b c s t = rw (eq-eqb (length b) 128 (length_sound b s), eq-eqb (length c) 128 (length_sound c t), s, t)
 
 read_left_lem : (b : List ℕ) (o : ℕ) → sound_bytes b ≡ true → Left (read_left b o) (read_device (decode b) o)
 unfolding read_call
 read_left_lem b o s =
     let d = decode b in
-    left_is (refusal_of (read_call b o)) (read_device d o) b s (sound_read d o (sound-decode b s)) (fits_read d o (fits_decode b s))
+    left_is (refusal_of (read_call b o)) (read_device d o) b s (sound_read d o (sound_decode b s)) (fits_read d o (fits_decode b s))
     (λ k. read_same d o (ap (λ (r : ℕ). eqb (refusal_of (pick (eqb r 0) (read_answer_of d o) (Refused r))) 0) (sym (record-done b s)) ∙ k))
 
 write_left_lem : (b : List ℕ) (o v : ℕ) → sound_bytes b ≡ true → Left (write_left b o v) (write_device (decode b) o v)
 unfolding write_call
 write_left_lem b o v s =
     let d = decode b in
-    left_is (write_call b o v) (write_device d o v) b s (sound_write d o v (sound-decode b s)) (fits_write d o v (fits_decode b s))
+    left_is (write_call b o v) (write_device d o v) b s (sound_write d o v (sound_decode b s)) (fits_write d o v (fits_decode b s))
     (λ k. write_same d o v (ap (λ (r : ℕ). eqb (first_of r (write_refusal_of d o v)) 0) (sym (record-done b s)) ∙ k))
 
 -- A list of steps ------------------------------------------------------------------------------------------------------
@@ -77,7 +77,7 @@ run_played : (n : ℕ) (r : Records) → SoundRecords r → Played (run_bytes n 
 unfolding pair_after
 run_played n r s =
     let p = devices_of r in
-    let g = good_pair_run n p (good-decode r.one s.one) (good-decode r.two s.two) in
+    let g = good_pair_run n p (good_decode r.one s.one) (good_decode r.two s.two) in
     let z = pair_done r.one r.two s.one s.two in
     let l = left_is (pair_refusal r.one r.two) (pair_run n p).first r.one s.one g.0.sound g.0.fits (λ k. absurd (true≢false (ap (λ (i : ℕ). eqb i 0) (sym z) ∙ k))) in
     let m = left_is (pair_refusal r.one r.two) (pair_run n p).second r.two s.two g.1.sound g.1.fits (λ k. absurd (true≢false (ap (λ (i : ℕ). eqb i 0) (sym z) ∙ k))) in
@@ -99,9 +99,9 @@ step_played (write slave o v) r s =
     record { sound = record { one = s.one; two = l.sound }; is = ap (λ (a : DeviceModel). record { first = decode r.one; second = a }) l.is }
 
 -- Playing on the bytes is playing on the devices, and no record on the way is unsound.
-pub plays-sound : (xs : List Step) (r : Records) → SoundRecords r → SoundRecords (plays_bytes xs r)
-plays-sound [] r s = s
-plays-sound (x ∷ xs) r s = plays-sound xs (play_bytes x r) (step_played x r s).sound
+pub plays_sound : (xs : List Step) (r : Records) → SoundRecords r → SoundRecords (plays_bytes xs r)
+plays_sound [] r s = s
+plays_sound (x ∷ xs) r s = plays_sound xs (play_bytes x r) (step_played x r s).sound
 
 pub plays_devices : (xs : List Step) (r : Records) → SoundRecords r → devices_of (plays_bytes xs r) ≡ plays xs (devices_of r)
 plays_devices [] r s = refl
@@ -124,7 +124,7 @@ plays_pair_run (suc n) p = plays_pair_run n (pair_cycle p)
 pub run_is_cycles : (n : ℕ) (r : Records) → SoundRecords r → run_bytes n r ≡ plays_bytes (replicate n Step.cycle) r
 run_is_cycles n r s =
     let one-run = run_played n r s in
-    let many = plays-sound (replicate n Step.cycle) r s in
+    let many = plays_sound (replicate n Step.cycle) r s in
     let same = one-run.is ∙ sym (plays_devices (replicate n Step.cycle) r s ∙ plays_pair_run n (devices_of r)) in
     ap₂ (λ (a b : List ℕ). record { one = a; two = b })
     (decode_injective _ _ one-run.sound.one many.one (ap (λ (q : PairModel). q.first) same))
@@ -133,7 +133,7 @@ run_is_cycles n r s =
 -- The first part.
 pub demand3_records : Demand3Records
 demand3_records r pre mid s st four z z' =
-    let left = plays-sound (steps pre mid (devices_of r)) r s in
+    let left = plays_sound (steps pre mid (devices_of r)) r s in
     record {
       sound = left;
       exchanged = subst Exchanged (sym (plays_devices (steps pre mid (devices_of r)) r s ∙ steps_lead pre mid (devices_of r))) (demand3 (devices_of r) pre mid st four z z');

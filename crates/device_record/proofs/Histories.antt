@@ -15,7 +15,7 @@ use Rattle.frames.specs.Lines.{pins_of}
 use Rattle.serial.specs.Sound.{sound_device, device_fits}
 use Rattle.serial.proofs.Soundness.{sound_reset, sound_read, sound_write, sound_cycle, fits_reset, fits_read, fits_write, fits_cycle}
 use Rattle.device_record.specs.Record.{encoded, decode, sound_bytes}
-use Rattle.device_record.proofs.RoundTrip.{sound-encode, sound-decode, fits_decode}
+use Rattle.device_record.proofs.RoundTrip.{sound_encode, sound_decode, fits_decode}
 use Rattle.serial.proofs.Accesses.{read_most, write_most}
 use Rattle.device_record.specs.Run.{after_bytes, inputs_fit, run_refusal}
 use Rattle.device_record.specs.Calls.{left_by, reset_refusal, reset_left, record_refusal, read_call, read_left, write_call, write_left, run_count, run_left, pair_refusal, pair_after, pair_left, Reached, NeverUnsound}
@@ -27,19 +27,19 @@ pub record Good (d : DeviceModel) : Type 0 where
   pub sound : sound_device d ≡ true
   pub fits : device_fits d ≡ true
 
-good-encode : (d : DeviceModel) → Good d → sound_bytes (encoded d) ≡ true
-good-encode d g = sound-encode d g.sound g.fits
+good_encode : (d : DeviceModel) → Good d → sound_bytes (encoded d) ≡ true
+good_encode d g = sound_encode d g.sound g.fits
 
-pub good-decode : (b : List ℕ) → sound_bytes b ≡ true → Good (decode b)
-good-decode b s = record { sound = sound-decode b s; fits = fits_decode b s }
+pub good_decode : (b : List ℕ) → sound_bytes b ≡ true → Good (decode b)
+good_decode b s = record { sound = sound_decode b s; fits = fits_decode b s }
 
 good_cycle : (d : DeviceModel) (x : Pins) → Good d → Good (cycle_of d x)
 good_cycle d x g = record { sound = sound_cycle d x g.sound; fits = fits_cycle d x g.sound g.fits }
 
-pub good-after : (d : DeviceModel) (ins : List ℕ) → Good d → Good (after_bytes d ins)
+pub good_after : (d : DeviceModel) (ins : List ℕ) → Good d → Good (after_bytes d ins)
 unfolding after_bytes
-good-after d [] g = g
-good-after d (p ∷ ps) g = good-after (cycle_of d (pins_of p)) ps (good_cycle d (pins_of p) g)
+good_after d [] g = g
+good_after d (p ∷ ps) g = good_after (cycle_of d (pins_of p)) ps (good_cycle d (pins_of p) g)
 
 pub good_pair_run : (n : ℕ) (p : PairModel) → Good p.first → Good p.second → Good (pair_run n p).first × Good (pair_run n p).second
 unfolding pair_cycle
@@ -57,7 +57,7 @@ left_sound : (refusal : ℕ) (d : DeviceModel) (b : List ℕ) → Good d → sou
 left_sound refusal d b g s = go (eqb refusal done)
   where
     go : (t : Bool) → sound_bytes (pick t (encoded d) b) ≡ true
-    go true = good-encode d g
+    go true = good_encode d g
     go false = s
 
 reset_good : (edition2 : Bool) → Good (reset_device edition2)
@@ -65,23 +65,23 @@ reset_good edition2 = record { sound = sound_reset edition2; fits = fits_reset e
 
 -- Reset makes a sound record of any 128 bytes.
 pub reset_makes_sound : (bytes : List ℕ) (edition : ℕ) → reset_refusal bytes edition ≡ done → sound_bytes (reset_left bytes edition) ≡ true
-reset_makes_sound bytes edition e = rw e (good-encode (reset_device (eqb edition 2)) (reset_good (eqb edition 2)))
+reset_makes_sound bytes edition e = rw e (good_encode (reset_device (eqb edition 2)) (reset_good (eqb edition 2)))
 
 pub reset_keeps_sound : (bytes : List ℕ) (edition : ℕ) → sound_bytes bytes ≡ true → sound_bytes (reset_left bytes edition) ≡ true
 reset_keeps_sound bytes edition s = left_sound (reset_refusal bytes edition) (reset_device (eqb edition 2)) bytes (reset_good (eqb edition 2)) s
 
 pub read_keeps_sound : (bytes : List ℕ) (o : ℕ) → sound_bytes bytes ≡ true → sound_bytes (read_left bytes o) ≡ true
 read_keeps_sound bytes o s =
-    left_sound (refusal_of (read_call bytes o)) (read_device (decode bytes) o) bytes (good_read (decode bytes) o (good-decode bytes s)) s
+    left_sound (refusal_of (read_call bytes o)) (read_device (decode bytes) o) bytes (good_read (decode bytes) o (good_decode bytes s)) s
 
 pub write_keeps_sound : (bytes : List ℕ) (o v : ℕ) → sound_bytes bytes ≡ true → sound_bytes (write_left bytes o v) ≡ true
 write_keeps_sound bytes o v s =
-    left_sound (write_call bytes o v) (write_device (decode bytes) o v) bytes (good_write (decode bytes) o v (good-decode bytes s)) s
+    left_sound (write_call bytes o v) (write_device (decode bytes) o v) bytes (good_write (decode bytes) o v (good_decode bytes s)) s
 
 pub run_keeps_sound : (stop : Stop) (bytes ins outs : List ℕ) → sound_bytes bytes ≡ true → sound_bytes (run_left stop bytes ins outs) ≡ true
 run_keeps_sound stop bytes ins outs s =
     let n = take (run_count stop bytes ins outs) ins in
-    left_sound (run_refusal bytes ins outs) (after_bytes (decode bytes) n) bytes (good-after (decode bytes) n (good-decode bytes s)) s
+    left_sound (run_refusal bytes ins outs) (after_bytes (decode bytes) n) bytes (good_after (decode bytes) n (good_decode bytes s)) s
 
 -- A pair run is refused where either record is not sound.
 pair_refused : (one two : List ℕ) → (not (sound_bytes one) || not (sound_bytes two)) ≡ true → eqb (pair_refusal one two) done ≡ false
@@ -94,22 +94,22 @@ pair_refused one two u = rw u (go (not (eqb (length one) 128) || not (eqb (lengt
 
 -- So it keeps a sound record sound, whatever the other one holds.
 module _ (one two : List ℕ) (n : ℕ) where
-  both-good : sound_bytes one ≡ true → sound_bytes two ≡ true → Good (pair_after one two n).first × Good (pair_after one two n).second
+  both_good : sound_bytes one ≡ true → sound_bytes two ≡ true → Good (pair_after one two n).first × Good (pair_after one two n).second
   unfolding pair_after
-  both-good s t = good_pair_run n (record { first = decode one; second = decode two }) (good-decode one s) (good-decode two t)
+  both_good s t = good_pair_run n (record { first = decode one; second = decode two }) (good_decode one s) (good_decode two t)
 
   pub pair_keeps_first : sound_bytes one ≡ true → sound_bytes (pair_left one two n).one ≡ true
   pair_keeps_first s = go (sound_bytes two) refl
     where
       go : (u : Bool) → sound_bytes two ≡ u → sound_bytes (left_by (pair_refusal one two) (pair_after one two n).first one) ≡ true
-      go true t = left_sound (pair_refusal one two) (pair_after one two n).first one (both-good s t).0 s
+      go true t = left_sound (pair_refusal one two) (pair_after one two n).first one (both_good s t).0 s
       go false t = rw (pair_refused one two (rw (s, t))) s
 
   pub pair_keeps_second : sound_bytes two ≡ true → sound_bytes (pair_left one two n).two ≡ true
   pair_keeps_second t = go (sound_bytes one) refl
     where
       go : (u : Bool) → sound_bytes one ≡ u → sound_bytes (left_by (pair_refusal one two) (pair_after one two n).second two) ≡ true
-      go true s = left_sound (pair_refusal one two) (pair_after one two n).second two (both-good s t).1 t
+      go true s = left_sound (pair_refusal one two) (pair_after one two n).second two (both_good s t).1 t
       go false s = rw (pair_refused one two (rw s)) t
 
 reached_sound : {bytes : List ℕ} → Reached bytes → sound_bytes bytes ≡ true

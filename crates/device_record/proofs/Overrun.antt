@@ -21,8 +21,8 @@ use Rattle.device_record.specs.Demand3.{devices_of, SoundRecords, LostRecords}
 use Rattle.device_record.specs.declared.calls.RunAnswer.{RunAnswer}
 use Rattle.device_record.specs.declared.run.Stop.{Stop}
 use Rattle.device_record.proofs.RoundTrip.{decode-encode}
-use Rattle.device_record.proofs.Answers.{run-passes, pair_passes, pair_refusal_swap}
-use Rattle.device_record.proofs.Histories.{Good, good-decode, good-after, good_pair_run}
+use Rattle.device_record.proofs.Answers.{run_passes, pair_passes, pair_refusal_swap}
+use Rattle.device_record.proofs.Histories.{Good, good_decode, good_after, good_pair_run}
 use Rattle.device_record.proofs.Demand3.{pair_done}
 use Rattle.device_record.proofs.Swap.{pair_left_swap}
 
@@ -42,19 +42,19 @@ module _ (stop : Stop) (b i o : List ℕ) where
   abbrev served : List ℕ
   served = take (run_count stop b i o) i
 
-  run-good : eqb (run_refusal b i o) 0 ≡ true → Good (after_bytes (decode b) served)
-  run-good t = good-after (decode b) served (good-decode b (run-passes b i o (eqb-true (run_refusal b i o) 0 t)).2)
+  run_good : eqb (run_refusal b i o) 0 ≡ true → Good (after_bytes (decode b) served)
+  run_good t = good_after (decode b) served (good_decode b (run_passes b i o (eqb-true (run_refusal b i o) 0 t)).2)
 
   run_ror : ror_in (run_left stop b i o) ≡ (ror_in b || any_lost (losses_of (run_lost stop b i o)))
   unfolding run_lost after_bytes lost_with
-  run_ror = left_ror (eqb (run_refusal b i o) 0) (after_bytes (decode b) served) b (lost_with (decode b) served) run-good (lost_in_run.overrun (decode b) (map pins_of served))
+  run_ror = left_ror (eqb (run_refusal b i o) 0) (after_bytes (decode b) served) b (lost_with (decode b) served) run_good (lost_in_run.overrun (decode b) (map pins_of served))
 
 module _ (one two : List ℕ) (n : ℕ) where
   pair_good : eqb (pair_refusal one two) 0 ≡ true → Good (pair_after one two n).first
   unfolding pair_after
   pair_good t =
       let s = pair_passes one two (eqb-true (pair_refusal one two) 0 t) in
-      (good_pair_run n (pair_of_records one two) (good-decode one s.2) (good-decode two s.3)).0
+      (good_pair_run n (pair_of_records one two) (good_decode one s.2) (good_decode two s.3)).0
 
   pair_ror : ror_in (pair_left one two n).one ≡ (ror_in one || any_lost (losses_of (pair_call_lost one two n)))
   unfolding pair_after pair_call_lost
@@ -88,7 +88,7 @@ run_accounted stop b i o r b' o' g z =
       lost = lost_in (decode b) ps;
       words =
           rw (g.count, g.left, t)
-          (run-words (decode b) ps ∙ ap (λ (x : DeviceModel). x.registers.rx ++ lost_in (decode b) ps) (sym (back (after (decode b) ps) (run-good stop b i o t))));
+          (run-words (decode b) ps ∙ ap (λ (x : DeviceModel). x.registers.rx ++ lost_in (decode b) ps) (sym (back (after (decode b) ps) (run_good stop b i o t))));
       handed = g.lost ∙ rw t;
     }
 

@@ -11,7 +11,7 @@ use Rattle.registers.specs.Refusals.{refusal_of}
 use Rattle.registers.specs.Offsets.{register_of}
 use Rattle.registers.specs.declared.offsets.Register.TheVariants.{Dr}
 use Rattle.registers.specs.declared.access.Answer.TheVariants.{Refused}
-use Rattle.registers.proofs.Picks.{pick-both}
+use Rattle.registers.proofs.Picks.{pick_both}
 use Rattle.serial.specs.Access.{read_answer_of, read_device}
 use Rattle.serial.specs.Demand3.{Step, cycles_in}
 use Rattle.serial.specs.Demand3.Which.{master, slave}
@@ -31,7 +31,7 @@ read_other_left bytes o h = go (eqb (length bytes) 128) (sound_bytes bytes) refl
     go : (t u : Bool) → sound_bytes bytes ≡ u
         → pick (eqb (refusal_of (pick (eqb (pick (not t) 10 (pick (not u) 9 0)) 0) (read_answer_of (decode bytes) o) (Refused (pick (not t) 10 (pick (not u) 9 0))))) 0) (encoded (read_device (decode bytes) o)) bytes ≡ bytes
     go true true e =
-        pick-both (λ (x : List ℕ). x ≡ bytes) (eqb (refusal_of (read_answer_of (decode bytes) o)) 0) (encoded (read_device (decode bytes) o)) bytes
+        pick_both (λ (x : List ℕ). x ≡ bytes) (eqb (refusal_of (read_answer_of (decode bytes) o)) 0) (encoded (read_device (decode bytes) o)) bytes
         (λ _. ap encoded (read_other_same (decode bytes) o h) ∙ encode-decode bytes e) (λ _. refl)
     go true false e = refl
     go false u e = refl

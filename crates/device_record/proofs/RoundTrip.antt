@@ -82,9 +82,9 @@ word_back x h = omega arith
 pub long_back : (x : ℕ) → x < 0x100000000 → joined_long x ≡ x
 long_back x h = omega arith
 
-pub places-back : (ws : List ℕ) → words_fit ws ≡ true → map joined (places ws) ≡ places ws
+pub places_back : (ws : List ℕ) → words_fit ws ≡ true → map joined (places ws) ≡ places ws
 unfolding places
-places-back ws h =
+places_back ws h =
     let back : (i : ℕ) → joined (get_or ws i 0) ≡ get_or ws i 0 = λ i. word_back (get_or ws i 0) (word_fits ws i h) in
     rw (back 0, back 1, back 2, back 3, back 4, back 5, back 6, back 7)
 
@@ -153,7 +153,7 @@ module _ (m : Model) (e : Engine) (h : History) (l : Lines) where
   fields_back : FileFits m → fields_at parts ≡ fields_of m
   unfolding state_bytes register_bytes engine_bytes level_bytes count_bytes queue_bytes word_bytes fields_of places fields_at word_at long_at flag_at words_at
   fields_back k =
-      rw (word_back m.control.cr0 k.cr0, byte_back m.control.cr1 k.cr1, byte_back m.control.cpsr k.cpsr, byte_back m.masks.imsc k.imsc, byte_back m.masks.dmacr k.dmacr, long_back m.timeout.count.0 k.count, flag_back m.ror, flag_back m.timeout.rt, flag_back m.control.edition2, places-back m.tx k.tx, places-back m.rx k.rx)
+      rw (word_back m.control.cr0 k.cr0, byte_back m.control.cr1 k.cr1, byte_back m.control.cpsr k.cpsr, byte_back m.masks.imsc k.imsc, byte_back m.masks.dmacr k.dmacr, long_back m.timeout.count.0 k.count, flag_back m.ror, flag_back m.timeout.rt, flag_back m.control.edition2, places_back m.tx k.tx, places_back m.rx k.rx)
 
   engine_back : EngineFit e → engine_at parts ≡ e
   unfolding state_bytes register_bytes engine_bytes level_bytes count_bytes engine_at word_at flag_at
@@ -164,9 +164,9 @@ module _ (m : Model) (e : Engine) (h : History) (l : Lines) where
   unfolding state_bytes register_bytes engine_bytes level_bytes count_bytes history_at
   history_back = rw (pins_back h.newest, pins_back h.middle, pins_back h.oldest)
 
-  levels-back : lines_from (get_or parts 27 0) ≡ l
+  levels_back : lines_from (get_or parts 27 0) ≡ l
   unfolding state_bytes register_bytes engine_bytes level_bytes count_bytes
-  levels-back = lines_back l
+  levels_back = lines_back l
 
   -- whatever was encoded, its bytes hold no more than fits them
 
@@ -189,7 +189,7 @@ pub decode-encode : (d : DeviceModel) → sound_device d ≡ true → device_fit
 unfolding sound_device device_fits encoded decode
 decode-encode d s f =
     let file = file_fits d.registers _ (and_left (sound_registers d.registers (active_device d)) _ s) (and_left (registers_fit d.registers) _ f) in
-    rw (fields_back d.registers d.engine d.pins d.lines file, engine_back d.registers d.engine d.pins d.lines (engine_fit d f), history_back d.registers d.engine d.pins d.lines, levels-back d.registers d.engine d.pins d.lines, model_fields d.registers file.waiting file.held)
+    rw (fields_back d.registers d.engine d.pins d.lines file, engine_back d.registers d.engine d.pins d.lines (engine_fit d f), history_back d.registers d.engine d.pins d.lines, levels_back d.registers d.engine d.pins d.lines, model_fields d.registers file.waiting file.held)
 
 fits_encoded : (d : DeviceModel) → device_fits (decode (encoded d)) ≡ true
 unfolding device_fits encoded decode
@@ -202,21 +202,21 @@ unfolding sound_bytes
 encode-decode b s = eq_list_true (encoded (decode b)) b (and_left (eq_list (encoded (decode b)) b) _ s)
 
 -- and that device is sound
-pub sound-decode : (b : List ℕ) → sound_bytes b ≡ true → sound_device (decode b) ≡ true
+pub sound_decode : (b : List ℕ) → sound_bytes b ≡ true → sound_device (decode b) ≡ true
 unfolding sound_bytes
-sound-decode b s = and_right (eq_list (encoded (decode b)) b) _ s
+sound_decode b s = and_right (eq_list (encoded (decode b)) b) _ s
 
 -- and fits its bytes
 pub fits_decode : (b : List ℕ) → sound_bytes b ≡ true → device_fits (decode b) ≡ true
 fits_decode b s = rw (encode-decode b s) at (fits_encoded (decode b))
 
-pub length-sound : (b : List ℕ) → sound_bytes b ≡ true → length b ≡ record_length
-length-sound b s = sym (ap length (encode-decode b s)) ∙ length-encode (decode b)
+pub length_sound : (b : List ℕ) → sound_bytes b ≡ true → length b ≡ record_length
+length_sound b s = sym (ap length (encode-decode b s)) ∙ length-encode (decode b)
 
 -- the bytes of a sound device that fits are sound
-pub sound-encode : (d : DeviceModel) → sound_device d ≡ true → device_fits d ≡ true → sound_bytes (encoded d) ≡ true
+pub sound_encode : (d : DeviceModel) → sound_device d ≡ true → device_fits d ≡ true → sound_bytes (encoded d) ≡ true
 unfolding sound_bytes
-sound-encode d s f = rw (decode-encode d s f, eq_list_refl (encoded d)) s
+sound_encode d s f = rw (decode-encode d s f, eq_list_refl (encoded d)) s
 
 -- two such devices with the same bytes are the same
 pub encode_injective : (d e : DeviceModel) → sound_device d ≡ true → device_fits d ≡ true → sound_device e ≡ true → device_fits e ≡ true → encoded d ≡ encoded e → d ≡ e

@@ -83,10 +83,10 @@ unfolding written
 written_all d ins outs e = rw (take-length ins, e, drop-length outs, append-nil)
 
 -- Nothing is run where the lengths differ.
-pub run-refused : (stops : DeviceModel → Bool) (d : Device) (ins outs : List ℕ) (l : Losses) → l ≡ losses_of [] → (length ins ≡ length outs → ⊥)
+pub run_refused : (stops : DeviceModel → Bool) (d : Device) (ins outs : List ℕ) (l : Losses) → l ≡ losses_of [] → (length ins ≡ length outs → ⊥)
     → RunUntil stops (device_of d) ins outs (record { count = 0; lost = l; device = d }) outs
 unfolding served written count_until after_bytes outputs lost_with
-run-refused stops d ins outs l n h =
+run_refused stops d ins outs l n h =
     let e = ne_eqb (length ins) (length outs) h in
     record { count = rw e; device = rw e; lost = rw e n; output = rw e }
 
@@ -105,9 +105,9 @@ unfolding outputs after_bytes lost_with
 run_begin stops d ins outs l n e = record { within = omega arith; long = e; same = refl; count = omega arith; device = refl; lost = noting_begin l n; output = refl }
 
 module _ (stops : DeviceModel → Bool) (d : DeviceModel) (ins outs now : List ℕ) (s : DeviceModel) (l : Losses) (i : ℕ) (r : Running stops d ins outs now s l i) where
-  pub run-turn : (n : DeviceModel) (b : ℕ) (x : Lost) (l' : Losses) → i < length ins → i < highest → stops s ≡ false → n ≡ cycle_of s (pins_of (get_or ins i 0)) → b ≡ byte_of n.lines
+  pub run_turn : (n : DeviceModel) (b : ℕ) (x : Lost) (l' : Losses) → i < length ins → i < highest → stops s ≡ false → n ≡ cycle_of s (pins_of (get_or ins i 0)) → b ≡ byte_of n.lines
       → lost_words x ≡ lost_of s (pins_of (get_or ins i 0)) → l' ≡ noted l x → Running stops d ins outs (set now i b) n l' (i + 1)
-  run-turn n b x l' h hi t e f g k =
+  run_turn n b x l' h hi t e f g k =
       let c : count_until stops s (drop i ins) ≡ 1 + count_until stops n (drop (i + 1) ins) = rw (add-one i, drop-cons ins i 0 h, e) (count_more stops s (get_or ins i 0) (drop (suc i) ins) t) in
       let z : length (outputs d (take i ins)) ≡ i = outputs-length d (take i ins) ∙ length-take-le i ins (omega arith) in
       let o : i < length outs = omega (arith, r.long) in
@@ -133,6 +133,6 @@ module _ (stops : DeviceModel → Bool) (d : DeviceModel) (ins outs now : List �
     run-held t = run_stop (r.count ∙ omega (arith, count_none stops s (drop i ins) t))
 
     -- the input ends
-    pub run-ended : length ins ≤ i → RunUntil stops d ins outs (record { count = i; lost = l; device = x }) now
+    pub run_ended : length ins ≤ i → RunUntil stops d ins outs (record { count = i; lost = l; device = x }) now
     unfolding count_until
-    run-ended h = run_stop (r.count ∙ rw (drop_of_length-le ins {i = i} h) (omega arith))
+    run_ended h = run_stop (r.count ∙ rw (drop_of_length-le ins {i = i} h) (omega arith))

@@ -40,8 +40,8 @@ plays_swap [] r = refl
 plays_swap (x ∷ xs) r = ap (plays_swapped xs) (play_swap x r) ∙ plays_swap xs (swapped_records (play_bytes x (swapped_records r)))
 
 -- The first part of demand 3 with the slave's record first.
-pub demand3-swapped : Demand3Swapped
-demand3-swapped r pre mid s st four z z' =
+pub demand3_swapped : Demand3Swapped
+demand3_swapped r pre mid s st four z z' =
     let q = swapped_records r in
     let e = demand3_records q pre mid (record { one = s.two; two = s.one }) st four z z' in
     let left = plays_bytes (steps pre mid (devices_of q)) q in

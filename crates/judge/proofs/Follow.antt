@@ -135,8 +135,8 @@ module _ (t : Table) (g : Good t) (h : ℕ) (z : 0 < h) where
       omega (arith, l, q, length-drop n r, length-replicate h x)
 
   -- a recording with h cycles of x from n on
-  spread-run : (r : List ℕ) (n x : ℕ) (ls : List ℕ) → run_of r n x ≡ h → take n r ++ spread h (x ∷ ls) ≡ take (n + h) r ++ spread h ls
-  spread-run r n x ls e = sym (append_assoc (take n r) (replicate h x) (spread h ls)) ∙ ap (λ (q : List ℕ). q ++ spread h ls) (sym (take-run r n x e))
+  spread_run : (r : List ℕ) (n x : ℕ) (ls : List ℕ) → run_of r n x ≡ h → take n r ++ spread h (x ∷ ls) ≡ take (n + h) r ++ spread h ls
+  spread_run r n x ls e = sym (append_assoc (take n r) (replicate h x) (spread h ls)) ∙ ap (λ (q : List ℕ). q ++ spread h ls) (sym (take-run r n x e))
 
   module _ (r : List ℕ) (n x : ℕ) (p : Place) (done : List ℕ) (f : Follows t h r n p done) (e : Next r n x) where
     abbrev after : Place
@@ -181,12 +181,12 @@ module _ (t : Table) (g : Good t) (h : ℕ) (z : 0 < h) where
     follows_on b q = record {
       within = run_within r n x f.within q;
       fine = way_on.fine x b;
-      sound = λ ls us k. subst (λ (s : List ℕ). Recorded t h s us) (spread-run r n x ls q) (f.sound (x ∷ ls) us (way_on.back done x ls us b k));
+      sound = λ ls us k. subst (λ (s : List ℕ). Recorded t h s us) (spread_run r n x ls q) (f.sound (x ∷ ls) us (way_on.back done x ls us b k));
       complete = λ s us k. go s us (same_or_missed s us k);
     }
       where
         go : (s us : List ℕ) → Same s us ⊎ Missed r n s → Goes t h r (n + h) after done_then s us ⊎ Missed r (n + h) s
-        go s us (inl k) = inl (record { lines = k.lines; could = (way_on.on done x k.lines us k.could).could; bytes = k.bytes ∙ spread-run r n x k.lines q })
+        go s us (inl k) = inl (record { lines = k.lines; could = (way_on.on done x k.lines us k.could).could; bytes = k.bytes ∙ spread_run r n x k.lines q })
         go s us (inr m) = inr (record { early = omega (arith, m.early); other = m.other })
 
     -- The recording goes no further: x does not fit ---------------------------------------------------------------------------------
@@ -259,8 +259,8 @@ module _ (t : Table) (g : Good t) (h : ℕ) (z : 0 < h) where
 
   -- The recording ends ----------------------------------------------------------------------------------------------------------------
 
-  pub ends-over : (r : List ℕ) (p : Place) (done : List ℕ) → Follows t h r (length r) p done → over t p ≡ true → Recorded t h r (done ++ (p.word ∷ []))
-  ends-over r p done f o =
+  pub ends_over : (r : List ℕ) (p : Place) (done : List ℕ) → Follows t h r (length r) p done → over t p ≡ true → Recorded t h r (done ++ (p.word ∷ []))
+  ends_over r p done f o =
       subst (λ (s : List ℕ). Recorded t h s (done ++ (p.word ∷ []))) (append-nil (take (length r) r) ∙ take-length r)
       (f.sound [] (done ++ (p.word ∷ [])) (over_could t g p f.fine o done))
 

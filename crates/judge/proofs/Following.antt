@@ -25,8 +25,8 @@ use Rattle.judge.specs.declared.place.Next.{Next}
 use Rattle.judge.proofs.Rests.{Good}
 use Rattle.judge.proofs.Sharing.{shared_least, shared_most}
 use Rattle.judge.proofs.Way.{done_after}
-use Rattle.judge.proofs.Follow.{Recorded, Stops, Follows, follows_start, follows_on, stops_at, stops_within, ends-over, ends_early}
-use Rattle.judge.proofs.Verdicts.{recorded-given, stops_none}
+use Rattle.judge.proofs.Follow.{Recorded, Stops, Follows, follows_start, follows_on, stops_at, stops_within, ends_over, ends_early}
+use Rattle.judge.proofs.Verdicts.{recorded_given, stops_none}
 
 -- A step counts a word or none ---------------------------------------------------------------------------------------------------
 
@@ -176,11 +176,11 @@ module _ (t : Table) (h : ℕ) (r found : List ℕ) (p : Place) (at : ℕ) (k : 
       part_room = let a = shared_most (replicate h X) (drop at r) in let b = length-drop at r in omega (arith, run_as, a, b, l)
 
       -- a whole slot
-      run-whole : h ≤ run → shared (replicate h X) (drop at r) ≡ h
-      run-whole m = let a = shared_least (replicate h X) (drop at r) in omega (arith, run_as, a, length-replicate h X)
+      run_whole : h ≤ run → shared (replicate h X) (drop at r) ≡ h
+      run_whole m = let a = shared_least (replicate h X) (drop at r) in omega (arith, run_as, a, length-replicate h X)
 
       follows_then : h ≤ run → Follows t h r (at + h) (step_of t p X).place (done_after p (step_of t p X).place k.done)
-      follows_then m = follows_on t k.good h k.positive r at X p k.done k.follows cycle_next (fits_as true b) (run-whole m)
+      follows_then m = follows_on t k.good h k.positive r at X p k.done k.follows cycle_next (fits_as true b) (run_whole m)
 
       pub following_room : h ≤ run → at + h ≤ length r
       following_room m = (follows_then m).within
@@ -219,7 +219,7 @@ module _ (t : Table) (h : ℕ) (r found : List ℕ) (p : Place) (at : ℕ) (k : 
     following_early o = subst (Stops t h r) (sym at_end) (ends_early t k.good h k.positive r p k.done follows_end o)
 
     pub following_over : over t p ≡ true → Recorded t h r (k.done ++ (p.word ∷ []))
-    following_over o = ends-over t k.good h k.positive r p k.done follows_end o
+    following_over o = ends_over t k.good h k.positive r p k.done follows_end o
 
   pub words_count : p.count + 1 ≡ length (k.done ++ (p.word ∷ []))
   words_count = let c = k.words.count in sym (length-append k.done (p.word ∷ []) ∙ omega arith)
@@ -237,5 +237,5 @@ module _ (s : Settings) (t : Table) (h : ℕ) (r : List ℕ) (e : t ≡ table_of
 
   pub told_words : (n : ℕ) (us found : List ℕ) → Recorded t h r us → n ≡ length us → found ≡ in_eight us → Followed s r (Words n) found
   told_words n us found k c f cr0 cpsr can same =
-      recorded-given cr0 cpsr can r us found n
+      recorded_given cr0 cpsr can r us found n
       (subst (λ (u : Settings). Recorded (table_of u) u.divisor.0 r us) (sym same) (subst (λ (j : ℕ). Recorded (table_of s) j r us) d (subst (λ (u : Table). Recorded u h r us) e k))) c f

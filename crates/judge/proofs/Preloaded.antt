@@ -14,7 +14,7 @@ use Rattle.serial.specs.Cycle.{low_pins, recording}
 use Rattle.serial.specs.Drawing.{drawing, stretch}
 use Rattle.serial.specs.Preloaded.{Sixteen, enabled_with}
 use Rattle.serial.proofs.Drawing.Injective.{drawing_injective, bytes_injective, stretch_injective}
-use Rattle.serial.proofs.Preloaded.{fresh_enabled, shown, enabled-shown}
+use Rattle.serial.proofs.Preloaded.{fresh_enabled, shown, enabled_shown}
 use Rattle.judge.specs.Judge.{can_enable, settings, cycles_for, cut_words, Gives, EveryList, OnlyWords, AnyMaster}
 use Rattle.judge.specs.Follow.{Permitted}
 
@@ -33,7 +33,7 @@ permitted cr0 cpsr h =
 shows : (e : Bool) (cr0 cpsr : ℕ) → can_enable cr0 cpsr ≡ true → (ws : List ℕ) → length ws ≤ 8 → Sixteen ws
     → (ps : List Pins) → length ps ≡ cycles_for cr0 cpsr (length ws) → map byte_of (recording (enabled_with e cr0 cpsr ws) ps) ≡ bytes_of (settings cr0 cpsr) ws
 unfolding can_enable settings cycles_for
-shows e cr0 cpsr h ws n s ps l = ap (map byte_of) (enabled-shown e cr0 cpsr h ws n s ps l)
+shows e cr0 cpsr h ws n s ps l = ap (map byte_of) (enabled_shown e cr0 cpsr h ws n s ps l)
 
 pub gives_drawing : (cr0 cpsr : ℕ) (ws r : List ℕ) → Gives cr0 cpsr ws r → r ≡ bytes_of (settings cr0 cpsr) ws
 gives_drawing cr0 cpsr ws r g =

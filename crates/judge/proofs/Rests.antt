@@ -62,9 +62,9 @@ pub record Good (t : Table) : Type 0 where
   pub first : t.first < 2
   pub second : t.second < 2
   -- a format that marks further words has only its bits
-  pub marked-waits : t.marks ≡ true → t.waits ≡ 0
+  pub marked_waits : t.marks ≡ true → t.waits ≡ 0
   pub marked_closes : t.marks ≡ true → t.closes ≡ 0
-  pub marked-again : t.marks ≡ true → t.again ≡ 0
+  pub marked_again : t.marks ≡ true → t.again ≡ 0
   -- where last slots follow, another word starts with its first bit, which does not look like them
   pub closing_again : (n : ℕ) → t.closes ≡ suc n → t.again ≡ 0
   pub closing_apart : (n : ℕ) → t.closes ≡ suc n → (c d : Bool) → eqb (bit_byte t.first false c) (end_byte t d t.closes) ≡ false

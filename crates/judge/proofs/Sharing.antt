@@ -130,8 +130,8 @@ module _ (cycles : List ℕ) (x most end i : ℕ) (k : Sharing (replicate most x
   run-same : i < end → get_or (replicate most x) i 0 ≡ x
   run-same l = let b = s.second in get_or-replicate most i x 0 (omega arith)
 
-  pub run-turn : i < end → get_or cycles i 0 ≡ x → Sharing (replicate most x) cycles (i + 1)
-  run-turn l e = sharing_turn (replicate most x) cycles i k (run_within l) (cycles_within l) (run-same l ∙ sym e)
+  pub run_turn : i < end → get_or cycles i 0 ≡ x → Sharing (replicate most x) cycles (i + 1)
+  run_turn l e = sharing_turn (replicate most x) cycles i k (run_within l) (cycles_within l) (run-same l ∙ sym e)
 
   pub run_stop : i < end → (get_or cycles i 0 ≡ x → ⊥) → i ≡ shared (replicate most x) cycles
   run_stop l n = sharing_stop (replicate most x) cycles i k (run_within l) (cycles_within l) (λ e. n (sym e ∙ run-same l))

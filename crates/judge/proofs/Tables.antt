@@ -30,9 +30,9 @@ fixed f phase polarity s = settings_by f phase polarity s.bits s.divisor s.slave
 abbrev Plain : (Bool → Lines) → ℕ → Type 0
 Plain f base = (d : Bool) → byte_of (f d) ≡ bit_byte base false d
 
-low-plain : (s : Settings) (c : Bool) → Plain (low s c) (byte_of (low s c false))
+low_plain : (s : Settings) (c : Bool) → Plain (low s c) (byte_of (low s c false))
 unfolding byte_of bit_byte
-low-plain s c d = omega arith
+low_plain s c d = omega arith
 
 -- a format whose bits look so in their two slots
 record Shows (t : Table) (f g : Bool → Lines) : Type 0 where
@@ -66,9 +66,9 @@ module _ (phase polarity : Bool) (s : Settings) where
   abbrev SM : Settings
   SM = fixed Motorola phase polarity s
 
-  motorola-shows : Shows (motorola_table SM) (low SM phase) (low SM (not phase))
+  motorola_shows : Shows (motorola_table SM) (low SM phase) (low SM (not phase))
   unfolding motorola_table
-  motorola-shows = record { first = low-plain SM phase; second = low-plain SM (not phase) }
+  motorola_shows = record { first = low_plain SM phase; second = low_plain SM (not phase) }
 
   -- the three slots after a last bit d
   end_shown : (d : Bool) → map byte_of (low SM false d ∷ idle SM ∷ idle SM ∷ []) ≡ down (end_byte (motorola_table SM) d) 3
@@ -83,25 +83,25 @@ module _ (polarity : Bool) (s : Settings) where
   S1 = fixed Motorola true polarity s
 
   -- every word has slot 0, its bits and the three slots
-  frames0-shown : (d : Bool) (ws : List ℕ) → map byte_of (frames0 S0 ws) ≡ after_word (motorola_table S0) d ws
+  frames0_shown : (d : Bool) (ws : List ℕ) → map byte_of (frames0 S0 ws) ≡ after_word (motorola_table S0) d ws
   unfolding motorola_table lead_byte wait_byte
-  frames0-shown d [] = refl
-  frames0-shown d (w ∷ ws) =
+  frames0_shown d [] = refl
+  frames0_shown d (w ∷ ws) =
       let t = motorola_table S0 in
       let last = low S0 false (last_of t w) ∷ idle S0 ∷ idle S0 ∷ [] in
       let bits = bit_lines (low S0 false) (low S0 true) s.bits w 0 s.bits in
       ap (λ (ls : List Lines). byte_of (low S0 false false) ∷ map byte_of ls) (append_assoc bits last (frames0 S0 ws))
       ∙ ap (λ (r : List ℕ). byte_of (low S0 false false) ∷ r)
-      (word_shown t (some ws) (low S0 false) (low S0 true) (motorola-shows false polarity s) w refl (last ++ frames0 S0 ws) _
-      (ap₂ ◌++◌ (end_shown false polarity s (last_of t w)) (frames0-shown (last_of t w) ws)))
+      (word_shown t (some ws) (low S0 false) (low S0 true) (motorola_shows false polarity s) w refl (last ++ frames0 S0 ws) _
+      (ap₂ ◌++◌ (end_shown false polarity s (last_of t w)) (frames0_shown (last_of t w) ws)))
 
   -- another word's bits follow at once
-  chain1-shown : (w : ℕ) (ws : List ℕ) → map byte_of (chain1 S1 w ws) ≡ word_from (motorola_table S1) w ws
+  chain1_shown : (w : ℕ) (ws : List ℕ) → map byte_of (chain1 S1 w ws) ≡ word_from (motorola_table S1) w ws
   unfolding motorola_table
-  chain1-shown w [] =
-      word_shown (motorola_table S1) false (low S1 true) (low S1 false) (motorola-shows true polarity s) w refl _ _ (end_shown true polarity s (last_of (motorola_table S1) w))
-  chain1-shown w (u ∷ us) =
-      word_shown (motorola_table S1) true (low S1 true) (low S1 false) (motorola-shows true polarity s) w refl _ _ (chain1-shown u us)
+  chain1_shown w [] =
+      word_shown (motorola_table S1) false (low S1 true) (low S1 false) (motorola_shows true polarity s) w refl _ _ (end_shown true polarity s (last_of (motorola_table S1) w))
+  chain1_shown w (u ∷ us) =
+      word_shown (motorola_table S1) true (low S1 true) (low S1 false) (motorola_shows true polarity s) w refl _ _ (chain1_shown u us)
 
 -- TI ------------------------------------------------------------------------------------------------------------------
 
@@ -110,73 +110,73 @@ module _ (phase polarity : Bool) (s : Settings) (b : 1 ≤ s.bits) where
   ST = fixed Ti phase polarity s
 
   -- FSS HIGH with the last bit is the mark
-  held-shown : (clk d : Bool) → byte_of (held clk d) ≡ bit_byte (byte_of (low ST clk false)) true d
+  held_shown : (clk d : Bool) → byte_of (held clk d) ≡ bit_byte (byte_of (low ST clk false)) true d
   unfolding byte_of bit_byte
-  held-shown clk d = omega arith
+  held_shown clk d = omega arith
 
   -- the bits before the last have no mark
   early_shown : (m : Bool) (w : ℕ) (rest : List Lines) (r : List ℕ) → map byte_of rest ≡ bits_from (ti_table ST) m w (s.bits - 1) 1 ++ r
       → map byte_of (bit_lines (low ST true) (low ST false) s.bits w 0 (s.bits - 1) ++ rest) ≡ bits_from (ti_table ST) m w 0 s.bits ++ r
   unfolding ti_table
   early_shown m w rest r h =
-      bits_shown (ti_table ST) m (low ST true) (low ST false) (record { first = low-plain ST true; second = low-plain ST false }) w
+      bits_shown (ti_table ST) m (low ST true) (low ST false) (record { first = low_plain ST true; second = low_plain ST false }) w
       1 (λ x k. ap (λ (u : Bool). u && m) (ne_eqb x 0 (omega arith))) (s.bits - 1) 0 (s.bits - 1) s.bits rest r (omega arith) (omega arith) h
 
-  joined-shown : (w : ℕ) (ws : List ℕ) → map byte_of (joined ST w ws) ≡ word_from (ti_table ST) w ws
+  joined_shown : (w : ℕ) (ws : List ℕ) → map byte_of (joined ST w ws) ≡ word_from (ti_table ST) w ws
   unfolding ti_table
-  joined-shown w [] =
+  joined_shown w [] =
       let d = bit_of s.bits w (s.bits - 1) in
-      early_shown false w _ _ (ap₂ (λ (x y : ℕ). x ∷ y ∷ []) (low-plain ST true d) (low-plain ST false d))
-  joined-shown w (u ∷ us) =
+      early_shown false w _ _ (ap₂ (λ (x y : ℕ). x ∷ y ∷ []) (low_plain ST true d) (low_plain ST false d))
+  joined_shown w (u ∷ us) =
       let d = bit_of s.bits w (s.bits - 1) in
-      early_shown true w _ _ (ap₂ ◌∷◌ (held-shown true d) (ap₂ ◌∷◌ (held-shown false d) (joined-shown u us)))
+      early_shown true w _ _ (ap₂ ◌∷◌ (held_shown true d) (ap₂ ◌∷◌ (held_shown false d) (joined_shown u us)))
 
 -- Microwire -----------------------------------------------------------------------------------------------------------
 
 -- the clock runs on in the wait and the data bits
-quiets-shown : (f : ℕ → ℕ) → ((x : ℕ) → f x ≡ 8 + x % 2) → (n j : ℕ) (rest : List Lines) (r : List ℕ) → j ≡ 2 * n → map byte_of rest ≡ r
+quiets_shown : (f : ℕ → ℕ) → ((x : ℕ) → f x ≡ 8 + x % 2) → (n j : ℕ) (rest : List Lines) (r : List ℕ) → j ≡ 2 * n → map byte_of rest ≡ r
     → map byte_of (quiets n ++ rest) ≡ down f j ++ r
 unfolding byte_of
-quiets-shown f c zero zero rest r e h = h
-quiets-shown f c zero (suc j) rest r e h = absurd (omega arith)
-quiets-shown f c (suc n) zero rest r e h = absurd (omega arith)
-quiets-shown f c (suc n) (suc zero) rest r e h = absurd (omega arith)
-quiets-shown f c (suc n) (suc (suc j)) rest r e h =
+quiets_shown f c zero zero rest r e h = h
+quiets_shown f c zero (suc j) rest r e h = absurd (omega arith)
+quiets_shown f c (suc n) zero rest r e h = absurd (omega arith)
+quiets_shown f c (suc n) (suc zero) rest r e h = absurd (omega arith)
+quiets_shown f c (suc n) (suc (suc j)) rest r e h =
     let x : 8 ≡ f (suc (suc j)) = omega (arith, c (suc (suc j))) in
     let y : 9 ≡ f (suc j) = omega (arith, c (suc j)) in
-    ap₂ ◌∷◌ x (ap₂ ◌∷◌ y (quiets-shown f c n j rest r (omega arith) h))
+    ap₂ ◌∷◌ x (ap₂ ◌∷◌ y (quiets_shown f c n j rest r (omega arith) h))
 
 module _ (phase polarity : Bool) (s : Settings) where
   abbrev SW : Settings
   SW = fixed Microwire phase polarity s
 
-  microwire-shows : Shows (microwire_table SW) (low SW false) (low SW true)
+  microwire_shows : Shows (microwire_table SW) (low SW false) (low SW true)
   unfolding microwire_table
-  microwire-shows = record { first = low-plain SW false; second = low-plain SW true }
+  microwire_shows = record { first = low_plain SW false; second = low_plain SW true }
 
-  chain_m-shown : (d : Bool) (ws : List ℕ) → map byte_of (chain_m SW ws) ≡ after_word (microwire_table SW) d ws
+  chain_m_shown : (d : Bool) (ws : List ℕ) → map byte_of (chain_m SW ws) ≡ after_word (microwire_table SW) d ws
   unfolding microwire_table wait_byte end_byte byte_of
-  chain_m-shown d [] = refl
-  chain_m-shown d (w ∷ ws) =
+  chain_m_shown d [] = refl
+  chain_m_shown d (w ∷ ws) =
       let t = microwire_table SW in
-      word_shown t (some ws) (low SW false) (low SW true) microwire-shows w refl (quiets (s.bits + 1) ++ chain_m SW ws) _
-      (quiets-shown (wait_byte t (last_of t w)) (λ x. refl) (s.bits + 1) (2 * s.bits + 2) (chain_m SW ws) _ (omega arith) (chain_m-shown (last_of t w) ws))
+      word_shown t (some ws) (low SW false) (low SW true) microwire_shows w refl (quiets (s.bits + 1) ++ chain_m SW ws) _
+      (quiets_shown (wait_byte t (last_of t w)) (λ x. refl) (s.bits + 1) (2 * s.bits + 2) (chain_m SW ws) _ (omega arith) (chain_m_shown (last_of t w) ws))
 
 -- All formats ---------------------------------------------------------------------------------------------------------
 
-drawn-on : (f : Format) (phase polarity : Bool) (s : Settings) → Serves f → 1 ≤ s.bits → (w : ℕ) (ws : List ℕ)
+drawn_on : (f : Format) (phase polarity : Bool) (s : Settings) → Serves f → 1 ≤ s.bits → (w : ℕ) (ws : List ℕ)
     → map byte_of (drawing (fixed f phase polarity s) (w ∷ ws)) ≡ whole (table_of (fixed f phase polarity s)) w ws
 unfolding drawing table_of motorola_table ti_table microwire_table lead_byte
-drawn-on Motorola true polarity s r b w ws = ap (λ (x : List ℕ). byte_of (low (fixed Motorola true polarity s) false false) ∷ x) (chain1-shown polarity s w ws)
-drawn-on Motorola false polarity s r b w ws = frames0-shown polarity s false (w ∷ ws)
-drawn-on Ti phase polarity s r b w ws =
-    ap (λ (x : List ℕ). byte_of (marked true) ∷ byte_of (marked false) ∷ x) (joined-shown phase polarity s b w ws)
-drawn-on Microwire phase polarity s r b w ws = chain_m-shown phase polarity s false (w ∷ ws)
-drawn-on Reserved phase polarity s r b w ws = absurd (r refl)
+drawn_on Motorola true polarity s r b w ws = ap (λ (x : List ℕ). byte_of (low (fixed Motorola true polarity s) false false) ∷ x) (chain1_shown polarity s w ws)
+drawn_on Motorola false polarity s r b w ws = frames0_shown polarity s false (w ∷ ws)
+drawn_on Ti phase polarity s r b w ws =
+    ap (λ (x : List ℕ). byte_of (marked true) ∷ byte_of (marked false) ∷ x) (joined_shown phase polarity s b w ws)
+drawn_on Microwire phase polarity s r b w ws = chain_m_shown phase polarity s false (w ∷ ws)
+drawn_on Reserved phase polarity s r b w ws = absurd (r refl)
 
 -- A drawing is what its table shows.
 pub drawn : (s : Settings) → Serves s.format → 1 ≤ s.bits → (w : ℕ) (ws : List ℕ) → map byte_of (drawing s (w ∷ ws)) ≡ whole (table_of s) w ws
-drawn s r b w ws = drawn-on s.format s.phase s.polarity s r b w ws
+drawn s r b w ws = drawn_on s.format s.phase s.polarity s r b w ws
 
 -- Facts of the tables -------------------------------------------------------------------------------------------------
 
@@ -206,9 +206,9 @@ motorola_apart : (phase polarity : Bool) (s : Settings) → (n : ℕ) → pick p
 motorola_apart true polarity s n e c d = apart1 polarity c d s
 motorola_apart false polarity s n e c d = absurd (omega arith)
 
-motorola-again : (phase : Bool) (n : ℕ) → pick phase 3 0 ≡ suc n → ◌≡◌ {A = ℕ} (pick phase 0 1) 0
-motorola-again true n e = refl
-motorola-again false n e = absurd (omega arith)
+motorola_again : (phase : Bool) (n : ℕ) → pick phase 3 0 ≡ suc n → ◌≡◌ {A = ℕ} (pick phase 0 1) 0
+motorola_again true n e = refl
+motorola_again false n e = absurd (omega arith)
 
 -- the slot after Microwire's last data bit is released
 apart_m : (phase polarity c d : Bool) (s : Settings) → eqb (bit_byte (byte_of (low (fixed Microwire phase polarity s) false false)) false c) (end_byte (microwire_table (fixed Microwire phase polarity s)) d 3) ≡ false
@@ -216,49 +216,49 @@ unfolding byte_of bit_byte end_byte microwire_table
 apart_m phase polarity true d s = refl
 apart_m phase polarity false d s = refl
 
-good-on : (f : Format) (phase polarity : Bool) (s : Settings) → Serves f → 2 ≤ s.bits → s.bits ≤ 16 → Good (table_of (fixed f phase polarity s))
+good_on : (f : Format) (phase polarity : Bool) (s : Settings) → Serves f → 2 ≤ s.bits → s.bits ≤ 16 → Good (table_of (fixed f phase polarity s))
 unfolding table_of motorola_table ti_table microwire_table
-good-on Motorola phase polarity s r b c =
+good_on Motorola phase polarity s r b c =
     let S = fixed Motorola phase polarity s in
     record {
       least = b;
       most = c;
       first = low_small S phase;
       second = low_small S (not phase);
-      marked-waits = λ e. cc;
+      marked_waits = λ e. cc;
       marked_closes = λ e. cc;
-      marked-again = λ e. cc;
-      closing_again = λ n e. motorola-again phase n e;
+      marked_again = λ e. cc;
+      closing_again = λ n e. motorola_again phase n e;
       closing_apart = λ n e x d. motorola_apart phase polarity s n e x d;
     }
-good-on Ti phase polarity s r b c =
+good_on Ti phase polarity s r b c =
     let S = fixed Ti phase polarity s in
     record {
       least = b;
       most = c;
       first = low_small S true;
       second = low_small S false;
-      marked-waits = λ e. refl;
+      marked_waits = λ e. refl;
       marked_closes = λ e. refl;
-      marked-again = λ e. refl;
+      marked_again = λ e. refl;
       closing_again = λ n e. refl;
       closing_apart = λ n e x d. absurd (omega arith);
     }
-good-on Microwire phase polarity s r b c =
+good_on Microwire phase polarity s r b c =
     let S = fixed Microwire phase polarity s in
     record {
       least = omega arith;
       most = omega arith;
       first = low_small S false;
       second = low_small S true;
-      marked-waits = λ e. cc;
+      marked_waits = λ e. cc;
       marked_closes = λ e. cc;
-      marked-again = λ e. refl;
+      marked_again = λ e. refl;
       closing_again = λ n e. refl;
       closing_apart = λ n e x d. apart_m phase polarity x d s;
     }
-good-on Reserved phase polarity s r b c = absurd (r refl)
+good_on Reserved phase polarity s r b c = absurd (r refl)
 
 -- Every table is as the way through a recording asks.
 pub good : (s : Settings) → Serves s.format → 2 ≤ s.bits → s.bits ≤ 16 → Good (table_of s)
-good s r b c = good-on s.format s.phase s.polarity s r b c
+good s r b c = good_on s.format s.phase s.polarity s r b c

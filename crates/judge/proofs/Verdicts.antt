@@ -44,11 +44,11 @@ width_same : (s : Settings) → Permitted s → (table_of s).width ≡ width_of 
 unfolding table_of width_of
 width_same s p = width_on_lem s.format s p.serves
 
-good-table : (s : Settings) → Permitted s → Good (table_of s)
-good-table s p = good s p.serves (let l = p.least in omega arith) p.most
+good_table : (s : Settings) → Permitted s → Good (table_of s)
+good_table s p = good s p.serves (let l = p.least in omega arith) p.most
 
-pub good-settings : (t : Table) (s : Settings) → t ≡ table_of s → Permitted s → Good t
-good-settings t s e p = subst Good (sym e) (good-table s p)
+pub good_settings : (t : Table) (s : Settings) → t ≡ table_of s → Permitted s → Good t
+good_settings t s e p = subst Good (sym e) (good_table s p)
 
 -- what a list gives, by the table
 bytes_whole : (s : Settings) → Permitted s → (w : ℕ) (ws : List ℕ) → bytes_of s (w ∷ ws) ≡ spread s.divisor.0 (whole (table_of s) w ws)
@@ -78,14 +78,14 @@ module _ (cr0 cpsr : ℕ) (can : can_enable cr0 cpsr ≡ true) where
   gives_recorded [] r g = let l = g.one in absurd (omega arith)
   gives_recorded (w ∷ ws) r g = record {
     lines = whole T w ws;
-    could = start_could T (good-table S perm) 0 T.leads [] (whole T w ws) (cut_words cr0 cpsr (w ∷ ws)) w ws g.words.0 g.words.1 (let l = g.eight in omega arith) refl (sym (cut-same (w ∷ ws)));
+    could = start_could T (good_table S perm) 0 T.leads [] (whole T w ws) (cut_words cr0 cpsr (w ∷ ws)) w ws g.words.0 g.words.1 (let l = g.eight in omega arith) refl (sym (cut-same (w ∷ ws)));
     bytes = gives_drawing cr0 cpsr (w ∷ ws) r g ∙ bytes_whole S perm w ws;
   }
 
   -- and each of these is given by a list
   recorded_gives : (r us : List ℕ) → Recorded T H r us → Accepted cr0 cpsr r us
   recorded_gives r us k =
-      let q = start_told T (good-table S perm) 0 T.leads [] k.lines us k.could in
+      let q = start_told T (good_table S perm) 0 T.leads [] k.lines us k.could in
       let ws = q.head ∷ q.others in
       record {
         list = ws;
@@ -105,5 +105,5 @@ module _ (cr0 cpsr : ℕ) (can : can_enable cr0 cpsr ≡ true) where
   }
 
   -- a recording of the table's, with its words in eight places
-  pub recorded-given : (r us places : List ℕ) (n : ℕ) → Recorded T H r us → n ≡ length us → places ≡ in_eight us → Given cr0 cpsr r n places
-  recorded-given r us places n k c e = record { words = us; accepted = recorded_gives r us k; count = c; eight = e }
+  pub recorded_given : (r us places : List ℕ) (n : ℕ) → Recorded T H r us → n ≡ length us → places ≡ in_eight us → Given cr0 cpsr r n places
+  recorded_given r us places n k c e = record { words = us; accepted = recorded_gives r us k; count = c; eight = e }

@@ -183,9 +183,9 @@ passes_on t p b q k done x ls us c =
           });
     }
 
-passes-back : (t : Table) (p : Place) (b : ℕ) (q : Place) → Passes t p b q → (done : List ℕ) (x : ℕ) (ls us : List ℕ)
+passes_back : (t : Table) (p : Place) (b : ℕ) (q : Place) → Passes t p b q → (done : List ℕ) (x : ℕ) (ls us : List ℕ)
     → (step_of t p x).fits ≡ true → Could t (step_of t p x).place (done_after p (step_of t p x).place done) ls us → Could t p done (x ∷ ls) us
-passes-back t p b q k done x ls us f c =
+passes_back t p b q k done x ls us f c =
     let g = k.steps x in
     let e : x ≡ b = eqb-true x b (sym (ap (λ (n : Next). n.fits) g) ∙ f) in
     let c' = subst (λ (n : Next). Could t n.place (done_after p n.place done) ls us) g c in
@@ -477,7 +477,7 @@ module _ (t : Table) (g : Good t) where
     passes = second_turn t word m c one g.most z (λ e. (f.mark e).0);
     fine = record { stage = tt; bound = subst (λ (i : ℕ). word < 2 ^ i) (omega (arith, one)) f.bound; count = f.count; mark = f.mark };
   }
-  passing_last word m c f (suc k) z true y d h = let e : suc k ≡ 0 = sym z ∙ g.marked-waits y in absurd (omega arith)
+  passing_last word m c f (suc k) z true y d h = let e : suc k ≡ 0 = sym z ∙ g.marked_waits y in absurd (omega arith)
   passing_last word m c f (suc k) z false y true h = false_true (sym y ∙ (f.mark h).0)
   passing_last word m c f (suc k) z false y false h =
       subst (λ (a : Bool). Passing t (place_by Second 1 word a c)) (sym h)
@@ -554,7 +554,7 @@ pub record Way (t : Table) (p : Place) : Type 0 where
 way_passing : (t : Table) (p : Place) → Passing t p → Way t p
 way_passing t p k = record {
   on = passes_on t p k.byte k.next k.passes;
-  back = passes-back t p k.byte k.next k.passes;
+  back = passes_back t p k.byte k.next k.passes;
   fine = λ x _. subst (λ (a : Next). Fine t a.place) (sym (k.passes.steps x)) k.fine;
 }
 
@@ -815,9 +815,9 @@ module _ (t : Table) (g : Good t) (left word : ℕ) (m : Bool) (c : ℕ) where
             (subst (λ (y : List ℕ). Could t (step_of t (start t.again) x).place y ls us) (sym (turned_done x done)) q.could);
       }
 
-  turn-back : Fine t turn → (done : List ℕ) (x : ℕ) (ls us : List ℕ) (b : Bool) → goes_on t turn x ≡ b
+  turn_back : Fine t turn → (done : List ℕ) (x : ℕ) (ls us : List ℕ) (b : Bool) → goes_on t turn x ≡ b
       → (step_of t turn x).fits ≡ true → Could t (step_of t turn x).place (done_after turn (step_of t turn x).place done) ls us → Could t turn done (x ∷ ls) us
-  turn-back f done x ls us false e h k₀ =
+  turn_back f done x ls us false e h k₀ =
       let s = turn_close x e in
       let k = (close_way f).back done x ls us (sym (ap (λ (n : Next). n.fits) s) ∙ h) (subst (λ (n : Next). Could t n.place (done_after turn n.place done) ls us) s k₀) in
       let none = k.fits.agrees in
@@ -834,7 +834,7 @@ module _ (t : Table) (g : Good t) (left word : ℕ) (m : Bool) (c : ℕ) where
         shows = k.shows ∙ ap (after_word t (bit_at word 0)) (sym none);
         all = k.all;
       }
-  turn-back f done x ls us true e h k₀ =
+  turn_back f done x ls us true e h k₀ =
       let W = t.width in
       let r = goes_room x f e t.marks refl in
       let s = turn_start x e in
@@ -864,10 +864,10 @@ module _ (t : Table) (g : Good t) (left word : ℕ) (m : Bool) (c : ℕ) where
       let s = turn_start x e in
       subst (λ (n : Next). Fine t n.place) (sym s) ((start_way t g (c + 1) t.again (goes_room x f e t.marks refl)).fine x (sym (ap (λ (n : Next). n.fits) s) ∙ h))
 
-  turn-way : Fine t turn → Way t turn
-  turn-way f = record {
+  turn_way : Fine t turn → Way t turn
+  turn_way f = record {
     on = λ done x ls us k. turn_on f done x ls us k.word k.words k.fits k.shows k.all;
-    back = λ done x ls us h k. turn-back f done x ls us (goes_on t turn x) refl h k;
+    back = λ done x ls us h k. turn_back f done x ls us (goes_on t turn x) refl h k;
     fine = λ x h. turn_fine f x (goes_on t turn x) refl h;
   }
 
@@ -880,5 +880,5 @@ way t g p f = go p.stage p.left p.word p.more p.count f
     go First left word m c f = way_told t g First left word m c tt f
     go Second left word m c f = way_told t g Second left word m c tt f
     go Wait left word m c f = way_told t g Wait left word m c tt f
-    go Turn left word m c f = turn-way t g left word m c f
+    go Turn left word m c f = turn_way t g left word m c f
     go Close left word m c f = way_told t g Close left word m c tt f

@@ -35,17 +35,17 @@ module _ (b : List ℕ) (o : ℕ) (a : Answer) (b' : List ℕ) (g : ReadCall b o
   read_refused k n q e = record { refusal = e ∙ ap refusal_of g.answer; word = ap word_of (sym q ∙ g.answer); left = g.left }
 
 -- What was lost, as the numbers that C gets.
-lost-numbers : (l : Losses) (ws : List ℕ) → l ≡ losses_of ws → ◌≡◌ {A = LostResult} (record { count = l.count; last = l.last }) (lost_numbers ws)
-lost-numbers l ws e = ap (λ (x : Losses). record { count = x.count; last = x.last }) e
+lost_numbers_lem : (l : Losses) (ws : List ℕ) → l ≡ losses_of ws → ◌≡◌ {A = LostResult} (record { count = l.count; last = l.last }) (lost_numbers ws)
+lost_numbers_lem l ws e = ap (λ (x : Losses). record { count = x.count; last = x.last }) e
 
 -- A run, with either stop.
-pub run-numbers : (stop : Stop) (b i o : List ℕ) (a : RunAnswer) (r : RanResult) (b' o' : List ℕ) → RunCall stop b i o a b' o' → r ≡ ran_numbers a → RunResult stop b i o r b' o'
-run-numbers stop b i o a r b' o' g e =
+pub run_numbers : (stop : Stop) (b i o : List ℕ) (a : RunAnswer) (r : RanResult) (b' o' : List ℕ) → RunCall stop b i o a b' o' → r ≡ ran_numbers a → RunResult stop b i o r b' o'
+run_numbers stop b i o a r b' o' g e =
     rw e
     (record {
       refusal = g.refusal;
       count = g.count;
-      lost = lost-numbers a.lost (run_lost stop b i o) g.lost;
+      lost = lost_numbers_lem a.lost (run_lost stop b i o) g.lost;
       left = g.left;
       output = g.output;
     })
@@ -55,8 +55,8 @@ pub pair_numbers : (one two : List ℕ) (n : ℕ) (a : PairAnswer) (one' two' : 
 pair_numbers one two n a one' two' g =
     record {
       refusal = g.refusal;
-      first_lost = lost-numbers a.first (pair_call_lost one two n) g.first_lost;
-      second_lost = lost-numbers a.second (pair_call_lost two one n) g.second_lost;
+      first_lost = lost_numbers_lem a.first (pair_call_lost one two n) g.first_lost;
+      second_lost = lost_numbers_lem a.second (pair_call_lost two one n) g.second_lost;
       first_left = g.first_left;
       second_left = g.second_left;
     }

@@ -83,8 +83,8 @@ take-length [] (suc n) = refl
 take-length (x ∷ xs) zero = refl
 take-length (x ∷ xs) (suc n) = ap (λ (t : List ℕ). x ∷ t) (take-length xs n)
 
-contents-shifted : (l : List ℕ) (k n : ℕ) → length l ≡ 8 → n ≡ length (take k l) → (n ≡ 0 → ⊥) → take k l ≡ get_or l 0 0 ∷ take (n - 1) (drop 1 l)
-contents-shifted l k n long e z = sym (take-length l k) ∙ (rw (← e) (take_cons l n (n - 1) (omega arith) (omega arith)))
+contents_shifted : (l : List ℕ) (k n : ℕ) → length l ≡ 8 → n ≡ length (take k l) → (n ≡ 0 → ⊥) → take k l ≡ get_or l 0 0 ∷ take (n - 1) (drop 1 l)
+contents_shifted l k n long e z = sym (take-length l k) ∙ (rw (← e) (take_cons l n (n - 1) (omega arith) (omega arith)))
 
 past_end : (l : List ℕ) (k n i : ℕ) → length l ≡ 8 → n ≡ length (take k l) → n ≤ i → ((j : ℕ) → k ≤ j → get_or l j 0 ≡ 0) → get_or l i 0 ≡ 0
 past_end l k n i long e h c = go (dec_lt i k)
@@ -97,7 +97,7 @@ pub taken_some : (q : Queue) (ws : List ℕ) (n : ℕ) → length q.words ≡ 8 
 taken_some q ws n long e z s =
     let k : n ≡ length (take q.count q.words) = e ∙ ap length (contents_of q) in
     let m : n ≤ 8 = rw (k, length-take) (omega arith) in
-    let h = contents-shifted q.words q.count n long k z in
+    let h = contents_shifted q.words q.count n long k z in
     record {
       word = rw (contents_of q, h);
       holds = contents_of _ ∙ rw (contents_of q, s, take-append-le (n - 1) (drop 1 q.words) (0 ∷ []) (rw length-drop (omega arith)), h);

@@ -8,7 +8,7 @@ use lib.Dec.{leb, eqb}
 use borrow.Author.Tests.{leb-false, eqb-true, eqb-false}
 use Rattle.registers.specs.Choose.{pick}
 use Rattle.registers.specs.Bits.{bit_at, bits_differ}
-use Rattle.registers.proofs.Picks.{pick_yes, pick_no, pick-both, and_off, under_off, both_absurd}
+use Rattle.registers.proofs.Picks.{pick_yes, pick_no, pick_both, and_off, under_off, both_absurd}
 use Rattle.registers.specs.Refusals.{first_of}
 use Rattle.registers.specs.Model.{Model}
 use Rattle.registers.specs.Offsets.{register_of}
@@ -84,24 +84,24 @@ cpsr_done m active v h =
 
 -- A read leaves the register file or, for DR, takes a word out of it: what holds for both holds after it.
 module _ (P : Model → Type 0) (m : Model) (h : P m) where
-  done-either : (p : Register) → (p ≡ Dr → P (data_taken m)) → P (read_done m p)
-  done-either Cr0 k = h
-  done-either Cr1 k = h
-  done-either Dr k = k refl
-  done-either Sr k = h
-  done-either Cpsr k = h
-  done-either Imsc k = h
-  done-either Ris k = h
-  done-either Mis k = h
-  done-either Icr k = h
-  done-either Dmacr k = h
-  done-either (Identity i) k = h
-  done-either Reserved k = h
-  done-either Outside k = h
+  done_either : (p : Register) → (p ≡ Dr → P (data_taken m)) → P (read_done m p)
+  done_either Cr0 k = h
+  done_either Cr1 k = h
+  done_either Dr k = k refl
+  done_either Sr k = h
+  done_either Cpsr k = h
+  done_either Imsc k = h
+  done_either Ris k = h
+  done_either Mis k = h
+  done_either Icr k = h
+  done_either Dmacr k = h
+  done_either (Identity i) k = h
+  done_either Reserved k = h
+  done_either Outside k = h
 
   pub read_either : (o : ℕ) → (register_of o ≡ Dr → P (data_taken m)) → P (read_model m o)
   unfolding read_model
-  read_either o k = pick-both P (eqb (read_refusal m (register_of o)) 0) _ _ (λ _. done-either (register_of o) k) (λ _. h)
+  read_either o k = pick_both P (eqb (read_refusal m (register_of o)) 0) _ _ (λ _. done_either (register_of o) k) (λ _. h)
 
 -- The control registers after an access -------------------------------------------------------------------------------
 
@@ -162,10 +162,10 @@ edition_written m Outside v = refl
 pub edition_write : (m : Model) (active : Bool) (o v : ℕ) → (write_model m active o v).control.edition2 ≡ m.control.edition2
 unfolding write_model
 edition_write m active o v =
-    pick-both (λ (x : Model). x.control.edition2 ≡ m.control.edition2) (eqb (write_refusal m active (register_of o) v) 0) _ _ (λ _. edition_written m (register_of o) v) (λ _. refl)
+    pick_both (λ (x : Model). x.control.edition2 ≡ m.control.edition2) (eqb (write_refusal m active (register_of o) v) 0) _ _ (λ _. edition_written m (register_of o) v) (λ _. refl)
 
 pub bounds_write : (m : Model) (active : Bool) (o v : ℕ) → active ≡ true → SameBounds m (write_model m active o v)
 unfolding write_model
 bounds_write m active o v e =
-    pick-both (λ (x : Model). SameBounds m x) (eqb (write_refusal m active (register_of o) v) 0) _ _
+    pick_both (λ (x : Model). SameBounds m x) (eqb (write_refusal m active (register_of o) v) 0) _ _
     (λ r. bounds_written m active (register_of o) v e (eqb-true _ _ r)) (λ _. bounds_control m _ refl)

@@ -12,9 +12,9 @@ pub pick_no : {A : Type 0} {t : Bool} (x y : A) → t ≡ false → pick t x y �
 pick_no {A} x y h = ap (λ (t : Bool). pick t x y) h
 
 -- what holds for both branches, each under its test
-pub pick-both : {A : Type 0} (P : A → Type 0) (t : Bool) (x y : A) → (t ≡ true → P x) → (t ≡ false → P y) → P (pick t x y)
-pick-both P true x y p q = p refl
-pick-both P false x y p q = q refl
+pub pick_both : {A : Type 0} (P : A → Type 0) (t : Bool) (x y : A) → (t ≡ true → P x) → (t ≡ false → P y) → P (pick t x y)
+pick_both P true x y p q = p refl
+pick_both P false x y p q = q refl
 
 pub pick_ap : {A B : Type 0} (f : A → B) (t : Bool) (x y : A) → f (pick t x y) ≡ pick t (f x) (f y)
 pick_ap f true x y = refl

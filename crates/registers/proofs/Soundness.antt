@@ -11,7 +11,7 @@ use lib.Dec.{ltb, leb, eqb}
 use borrow.Author.Tests.{ltb-true, leb-true, eqb-true, leb-false, eqb-false, lt-ltb, le-leb, eq-eqb, ne_eqb}
 use Rattle.queue.specs.Fifo.{added, rest}
 use Rattle.registers.specs.Bits.{bit_at}
-use Rattle.registers.proofs.Picks.{pick_yes, pick_no, pick-both, and_left, and_right, and_both, or_right, under_elim, under_intro, not_elim, not_intro, both_absurd}
+use Rattle.registers.proofs.Picks.{pick_yes, pick_no, pick_both, and_left, and_right, and_both, or_right, under_elim, under_intro, not_elim, not_intro, both_absurd}
 use Rattle.registers.specs.Time.{cycles_of}
 use Rattle.registers.specs.Model.{Model, reset_registers, with_cr0, with_cr1, with_cpsr}
 use Rattle.registers.specs.Offsets.{register_of}
@@ -96,7 +96,7 @@ unfolding sound_registers masks_sound queues_sound count_sound limit_of cycles_o
 sound_intro m active t =
     and_both _ _ (and_both _ _ (control_intro m.control active t.control) (and_both _ _ (le-leb _ _ t.imsc) (le-leb _ _ t.dmacr)))
     (and_both _ _ (and_both _ _ (le-leb _ _ t.tx) (le-leb _ _ t.rx))
-    (pick-both (λ (x : Bool). x ≡ true) (enabled_of m.control) _ _ (λ e. lt-ltb _ _ (t.count.running e)) (λ e. eq-eqb _ _ (t.count.stopped e))))
+    (pick_both (λ (x : Bool). x ≡ true) (enabled_of m.control) _ _ (λ e. lt-ltb _ _ (t.count.running e)) (λ e. eq-eqb _ _ (t.count.stopped e))))
 
 -- What it means to be active -------------------------------------------------------------------------------------------------
 
@@ -119,9 +119,9 @@ bits_most cr0 = omega arith
 pub format_known : (cr0 : ℕ) → permitted_of cr0 ≡ true → format_of cr0 ≡ ReservedFormat → ⊥
 unfolding permitted_of format_of
 format_known cr0 h =
-    pick-both (λ (f : Format). f ≡ ReservedFormat → ⊥) (eqb (cr0 / 16 % 4) 0) _ _ (λ _ e. let z : ◌≡◌ {A = ℕ} 0 1 = cc in omega arith)
-    (λ a. pick-both (λ (f : Format). f ≡ ReservedFormat → ⊥) (eqb (cr0 / 16 % 4) 1) _ _ (λ _ e. let z : ◌≡◌ {A = ℕ} 0 1 = cc in omega arith)
-    (λ b. pick-both (λ (f : Format). f ≡ ReservedFormat → ⊥) (eqb (cr0 / 16 % 4) 2) _ _ (λ _ e. let z : ◌≡◌ {A = ℕ} 0 1 = cc in omega arith)
+    pick_both (λ (f : Format). f ≡ ReservedFormat → ⊥) (eqb (cr0 / 16 % 4) 0) _ _ (λ _ e. let z : ◌≡◌ {A = ℕ} 0 1 = cc in omega arith)
+    (λ a. pick_both (λ (f : Format). f ≡ ReservedFormat → ⊥) (eqb (cr0 / 16 % 4) 1) _ _ (λ _ e. let z : ◌≡◌ {A = ℕ} 0 1 = cc in omega arith)
+    (λ b. pick_both (λ (f : Format). f ≡ ReservedFormat → ⊥) (eqb (cr0 / 16 % 4) 2) _ _ (λ _ e. let z : ◌≡◌ {A = ℕ} 0 1 = cc in omega arith)
     (λ c _. let l = ltb-true (cr0 / 16 % 4) 3 (and_left (ltb (cr0 / 16 % 4) 3) _ h) in omega (arith, eqb-false (cr0 / 16 % 4) 0 a, eqb-false (cr0 / 16 % 4) 1 b, eqb-false (cr0 / 16 % 4) 2 c))))
 
 -- all of it, of a sound control
@@ -157,7 +157,7 @@ rest_most (x ∷ xs) h = omega arith
 added_most : (xs : List ℕ) (w : ℕ) → length xs ≤ 8 → length (added xs w) ≤ 8
 unfolding added
 added_most xs w h =
-    pick-both (λ (l : List ℕ). length l ≤ 8) (ltb (length xs) 8) _ _ (λ e. let l = ltb-true (length xs) 8 e in simp length-append (omega arith)) (λ _. h)
+    pick_both (λ (l : List ℕ). length l ≤ 8) (ltb (length xs) 8) _ _ (λ e. let l = ltb-true (length xs) 8 e in simp length-append (omega arith)) (λ _. h)
 
 -- Reset and the engine's steps ---------------------------------------------------------------------------------------
 
@@ -165,9 +165,9 @@ pub sound_reset : (edition2 : Bool) → sound_registers (reset_registers edition
 unfolding sound_registers control_sound masks_sound queues_sound count_sound enabled_of permitted_of
 sound_reset edition2 = refl
 
-pub sound-take : (m : Model) (active : Bool) → sound_registers m active ≡ true → sound_registers (take_word m) active ≡ true
+pub sound_take : (m : Model) (active : Bool) → sound_registers m active ≡ true → sound_registers (take_word m) active ≡ true
 unfolding take_word
-sound-take m active h =
+sound_take m active h =
     let t = sound_elim m active h in
     sound_intro _ active (record { control = t.control; imsc = t.imsc; dmacr = t.dmacr; tx = rest_most m.tx t.tx; rx = t.rx; count = t.count })
 
@@ -181,8 +181,8 @@ sound_receive m active w h =
 count_end : (m : Model) (active frame : Bool) → Enables m.control active → SoundFacts m active → CountFacts m.control (timeout_of m frame).count.0
 unfolding timeout_of limit_of cycles_of idles_of
 count_end m active frame on t =
-    pick-both (λ (x : Timeout). CountFacts m.control x.count.0) (idles_of m frame) _ _
-    (λ i. pick-both (λ (x : Timeout). CountFacts m.control x.count.0) (leb (64 * (divisor_of m.control).0) (m.timeout.count.0 + 1)) _ _
+    pick_both (λ (x : Timeout). CountFacts m.control x.count.0) (idles_of m frame) _ _
+    (λ i. pick_both (λ (x : Timeout). CountFacts m.control x.count.0) (leb (64 * (divisor_of m.control).0) (m.timeout.count.0 + 1)) _ _
     (λ _. count_zero m.control active on t.control)
     (λ k. record {
       running = λ _. let l = leb-false (64 * (divisor_of m.control).0) (m.timeout.count.0 + 1) k in omega arith;
@@ -285,7 +285,7 @@ module _ (m : Model) (active active' : Bool) (v : ℕ) (on : Enables m.control a
         dmacr = t.dmacr;
         tx = t.tx;
         rx = t.rx;
-        count = pick-both (λ (x : Cycles). CountFacts c x.0) (bit_at v 1) _ _
+        count = pick_both (λ (x : Cycles). CountFacts c x.0) (bit_at v 1) _ _
             (λ y. record { running = λ e. count_enabling m.control c m.timeout.count.0 t.count (divisor_positive c active' u (on' e)) refl; stopped = λ e. both_absurd (bit_at v 1) y (sym same ∙ e) })
             (λ _. count_zero c active' on' u);
       })
@@ -322,7 +322,7 @@ module _ (m : Model) (active active' : Bool) (v : ℕ) (on : Enables m.control a
         dmacr = t.dmacr;
         tx = t.tx;
         rx = t.rx;
-        count = pick-both (λ (x : Cycles). CountFacts m.control x.0) (not (bit_at v 1)) _ _ (λ _. t.count) (λ _. count_zero m.control active on t.control);
+        count = pick_both (λ (x : Cycles). CountFacts m.control x.0) (not (bit_at v 1)) _ _ (λ _. t.count) (λ _. count_zero m.control active on t.control);
       })
 
   sound_dr : sound_registers (dr_written m v) active ≡ true
@@ -344,31 +344,31 @@ module _ (m : Model) (active active' : Bool) (v : ℕ) (on : Enables m.control a
       sound_intro _ active (record { control = t.control; imsc = t.imsc; dmacr = omega arith; tx = t.tx; rx = t.rx; count = t.count })
 
   -- a register that leaves CR1
-  sound-kept : (x : Model) → sound_registers x active ≡ true → x.control ≡ m.control → Becomes active active' x.control → sound_registers x active' ≡ true
-  sound-kept x k e becomes = sound_active x active active' (still_active m.control x.control active active' (ap enabled_of e) on becomes) k
+  sound_kept : (x : Model) → sound_registers x active ≡ true → x.control ≡ m.control → Becomes active active' x.control → sound_registers x active' ≡ true
+  sound_kept x k e becomes = sound_active x active active' (still_active m.control x.control active active' (ap enabled_of e) on becomes) k
 
-  sound-written : (p : Register) → write_refusal m active p v ≡ 0 → Becomes active active' (write_done m p v).control → Enables (write_done m p v).control active' → sound_registers (write_done m p v) active' ≡ true
+  sound_written : (p : Register) → write_refusal m active p v ≡ 0 → Becomes active active' (write_done m p v).control → Enables (write_done m p v).control active' → sound_registers (write_done m p v) active' ≡ true
   unfolding icr_written dr_written imsc_written dmacr_written
-  sound-written Cr0 r b on' = sound_cr0 r b
-  sound-written Cr1 r b on' = sound_cr1 r b on'
-  sound-written Dr r b on' = sound-kept _ sound_dr refl b
-  sound-written Sr r b on' = sound-kept m h refl b
-  sound-written Cpsr r b on' = sound_cpsr r b
-  sound-written Imsc r b on' = sound-kept _ sound_imsc refl b
-  sound-written Ris r b on' = sound-kept m h refl b
-  sound-written Mis r b on' = sound-kept m h refl b
-  sound-written Icr r b on' = sound-kept _ sound_icr refl b
-  sound-written Dmacr r b on' = sound-kept _ sound_dmacr refl b
-  sound-written (Identity i) r b on' = sound-kept m h refl b
-  sound-written Reserved r b on' = sound-kept m h refl b
-  sound-written Outside r b on' = sound-kept m h refl b
+  sound_written Cr0 r b on' = sound_cr0 r b
+  sound_written Cr1 r b on' = sound_cr1 r b on'
+  sound_written Dr r b on' = sound_kept _ sound_dr refl b
+  sound_written Sr r b on' = sound_kept m h refl b
+  sound_written Cpsr r b on' = sound_cpsr r b
+  sound_written Imsc r b on' = sound_kept _ sound_imsc refl b
+  sound_written Ris r b on' = sound_kept m h refl b
+  sound_written Mis r b on' = sound_kept m h refl b
+  sound_written Icr r b on' = sound_kept _ sound_icr refl b
+  sound_written Dmacr r b on' = sound_kept _ sound_dmacr refl b
+  sound_written (Identity i) r b on' = sound_kept m h refl b
+  sound_written Reserved r b on' = sound_kept m h refl b
+  sound_written Outside r b on' = sound_kept m h refl b
 
 pub sound_write : (m : Model) (active active' : Bool) (o v : ℕ) → Enables m.control active → sound_registers m active ≡ true
     → Becomes active active' (write_model m active o v).control → Enables (write_model m active o v).control active' → sound_registers (write_model m active o v) active' ≡ true
 unfolding write_model
 sound_write m active active' o v on h =
-    pick-both (λ (x : Model). Becomes active active' x.control → Enables x.control active' → sound_registers x active' ≡ true) (eqb (write_refusal m active (register_of o) v) 0) _ _
-    (λ e. sound-written m active active' v on h (register_of o) (eqb-true _ _ e)) (λ _ b _. sound-kept m active active' v on h m h refl b)
+    pick_both (λ (x : Model). Becomes active active' x.control → Enables x.control active' → sound_registers x active' ≡ true) (eqb (write_refusal m active (register_of o) v) 0) _ _
+    (λ e. sound_written m active active' v on h (register_of o) (eqb-true _ _ e)) (λ _ b _. sound_kept m active active' v on h m h refl b)
 
 -- What the bytes of a record can hold --------------------------------------------------------------------------------
 
@@ -411,7 +411,7 @@ append_fits (x ∷ xs) w p h = and_both _ _ (and_left (ltb x 0x10000) _ h) (appe
 
 added_fits : (xs : List ℕ) (w : ℕ) → w < 0x10000 → words_fit xs ≡ true → words_fit (added xs w) ≡ true
 unfolding added
-added_fits xs w p h = pick-both (λ (l : List ℕ). words_fit l ≡ true) (ltb (length xs) 8) _ _ (λ _. append_fits xs w p h) (λ _. h)
+added_fits xs w p h = pick_both (λ (l : List ℕ). words_fit l ≡ true) (ltb (length xs) 8) _ _ (λ _. append_fits xs w p h) (λ _. h)
 
 -- the next word to send fits
 pub next_fits : (m : Model) → words_fit m.tx ≡ true → next_word m < 0x10000
@@ -445,8 +445,8 @@ fits_end m frame h =
     fits_intro _ (record {
       cr0 = t.cr0;
       cpsr = t.cpsr;
-      count = pick-both (λ (x : Timeout). x.count.0 < 0x100000000) (idles_of m frame) _ _
-          (λ _. pick-both (λ (x : Timeout). x.count.0 < 0x100000000) (leb (64 * (divisor_of m.control).0) (m.timeout.count.0 + 1)) _ _
+      count = pick_both (λ (x : Timeout). x.count.0 < 0x100000000) (idles_of m frame) _ _
+          (λ _. pick_both (λ (x : Timeout). x.count.0 < 0x100000000) (leb (64 * (divisor_of m.control).0) (m.timeout.count.0 + 1)) _ _
           (λ _. omega arith)
           (λ k. let l = leb-false (64 * (divisor_of m.control).0) (m.timeout.count.0 + 1) k in let p = divisor_most m.control t.cpsr in omega arith))
           (λ _. omega arith);
@@ -462,7 +462,7 @@ fits_read m o h =
     (λ _. fits_intro _ (record { cr0 = t.cr0; cpsr = t.cpsr; count = omega arith; tx = t.tx; rx = rest_fits m.rx t.rx }))
 
 fits_kept : (keep : Bool) (n : Cycles) → n.0 < 0x100000000 → (kept_count keep n).0 < 0x100000000
-fits_kept keep n h = pick-both (λ (x : Cycles). x.0 < 0x100000000) keep _ _ (λ _. h) (λ _. omega arith)
+fits_kept keep n h = pick_both (λ (x : Cycles). x.0 < 0x100000000) keep _ _ (λ _. h) (λ _. omega arith)
 
 fits_written : (m : Model) (p : Register) (v : ℕ) → registers_fit m ≡ true → registers_fit (write_done m p v) ≡ true
 unfolding cr0_written cr1_written cpsr_written icr_written dr_written imsc_written dmacr_written
@@ -497,4 +497,4 @@ fits_written m Outside v h = h
 pub fits_write : (m : Model) (active : Bool) (o v : ℕ) → registers_fit m ≡ true → registers_fit (write_model m active o v) ≡ true
 unfolding write_model
 fits_write m active o v h =
-    pick-both (λ (x : Model). registers_fit x ≡ true) (eqb (write_refusal m active (register_of o) v) 0) _ _ (λ _. fits_written m (register_of o) v h) (λ _. h)
+    pick_both (λ (x : Model). registers_fit x ≡ true) (eqb (write_refusal m active (register_of o) v) 0) _ _ (λ _. fits_written m (register_of o) v h) (λ _. h)

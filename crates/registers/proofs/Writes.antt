@@ -15,7 +15,7 @@ use Rattle.registers.specs.Offsets.{register_of}
 use Rattle.registers.specs.Access.{bits_beyond, cr0_rule, cr1_rule, cpsr_rule, dr_rule, write_refusal, cr0_written, cr1_written, cpsr_written, dr_written, write_model}
 use Rattle.registers.specs.declared.Control.{Control}
 use Rattle.registers.specs.declared.offsets.Register.TheVariants.{Dr}
-use Rattle.registers.proofs.Picks.{pick_yes, pick-both}
+use Rattle.registers.proofs.Picks.{pick_yes, pick_both}
 
 -- What stays ---------------------------------------------------------------------------------------------------------
 
@@ -26,27 +26,27 @@ pub record Kept (m n : Model) : Type 0 where
 
 pub cr0_kept : (m : Model) (active : Bool) (v : ℕ) → Kept m (write_model m active 0x00 v)
 unfolding write_model register_of cr0_written
-cr0_kept m active v = pick-both (Kept m) (eqb (write_refusal m active (register_of 0x00) v) 0) _ _ (λ _. record { cr1 = refl; tx = refl }) (λ _. record { cr1 = refl; tx = refl })
+cr0_kept m active v = pick_both (Kept m) (eqb (write_refusal m active (register_of 0x00) v) 0) _ _ (λ _. record { cr1 = refl; tx = refl }) (λ _. record { cr1 = refl; tx = refl })
 
 pub cpsr_kept : (m : Model) (active : Bool) (v : ℕ) → Kept m (write_model m active 0x10 v)
 unfolding write_model register_of cpsr_written
-cpsr_kept m active v = pick-both (Kept m) (eqb (write_refusal m active (register_of 0x10) v) 0) _ _ (λ _. record { cr1 = refl; tx = refl }) (λ _. record { cr1 = refl; tx = refl })
+cpsr_kept m active v = pick_both (Kept m) (eqb (write_refusal m active (register_of 0x10) v) 0) _ _ (λ _. record { cr1 = refl; tx = refl }) (λ _. record { cr1 = refl; tx = refl })
 
 pub cr1_tx : (m : Model) (active : Bool) (v : ℕ) → (write_model m active 0x04 v).tx ≡ m.tx
 unfolding write_model register_of cr1_written
-cr1_tx m active v = pick-both (λ (n : Model). n.tx ≡ m.tx) (eqb (write_refusal m active (register_of 0x04) v) 0) _ _ (λ _. refl) (λ _. refl)
+cr1_tx m active v = pick_both (λ (n : Model). n.tx ≡ m.tx) (eqb (write_refusal m active (register_of 0x04) v) 0) _ _ (λ _. refl) (λ _. refl)
 
 -- no word to send changes a control register
 pub dr_control : (m : Model) (active : Bool) (v : ℕ) → (write_model m active 0x08 v).control ≡ m.control
 unfolding write_model register_of dr_written
-dr_control m active v = pick-both (λ (n : Model). n.control ≡ m.control) (eqb (write_refusal m active (register_of 0x08) v) 0) _ _ (λ _. refl) (λ _. refl)
+dr_control m active v = pick_both (λ (n : Model). n.control ≡ m.control) (eqb (write_refusal m active (register_of 0x08) v) 0) _ _ (λ _. refl) (λ _. refl)
 
 -- What is written ----------------------------------------------------------------------------------------------------
 
 -- CR1 is the low four bits of the value or, where it is refused, as it was
 pub cr1_either : (P : ℕ → Type 0) (m : Model) (active : Bool) (v : ℕ) → P (v % 0x10) → P m.control.cr1 → P (write_model m active 0x04 v).control.cr1
 unfolding write_model register_of cr1_written
-cr1_either P m active v h k = pick-both (λ (n : Model). P n.control.cr1) (eqb (write_refusal m active (register_of 0x04) v) 0) _ _ (λ _. h) (λ _. k)
+cr1_either P m active v h k = pick_both (λ (n : Model). P n.control.cr1) (eqb (write_refusal m active (register_of 0x04) v) 0) _ _ (λ _. h) (λ _. k)
 
 -- a word of 16 bits is not refused with fewer than eight waiting
 dr_passes : (m : Model) (active : Bool) (w : ℕ) → w < 65536 → length m.tx < 8 → eqb (write_refusal m active Dr w) 0 ≡ true

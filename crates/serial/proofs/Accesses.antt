@@ -96,13 +96,13 @@ write_most d o v =
     pick_most (eqb a 0) (write_rule d.registers (active_device d) (register_of o) v) a (write_rule_most d.registers (active_device d) (register_of o) v) (write_access_most (register_of o) v)
 
 -- A read is never refused with 0.
-refused-some : (t : Bool) (x w k : ℕ) → eqb x 0 ≡ t → pick t (Word w) (Refused x) ≡ Refused k → eqb k 0 ≡ false
-refused-some true x w k q e = absurd (let z : ◌≡◌ {A = ℕ} 0 1 = cc in omega arith)
-refused-some false x w k q e = let z : x ≡ k = cc in rw z at q
+refused_some : (t : Bool) (x w k : ℕ) → eqb x 0 ≡ t → pick t (Word w) (Refused x) ≡ Refused k → eqb k 0 ≡ false
+refused_some true x w k q e = absurd (let z : ◌≡◌ {A = ℕ} 0 1 = cc in omega arith)
+refused_some false x w k q e = let z : x ≡ k = cc in rw z at q
 
 pub refused_read : (d : DeviceModel) (o k : ℕ) → read_answer_of d o ≡ Refused k → eqb k 0 ≡ false
 unfolding read_answer_of read_answer
-refused_read d o k e = refused-some (eqb (read_refusal d.registers (register_of o)) 0) (read_refusal d.registers (register_of o)) (read_word d.registers d.engine.frame (register_of o)) k refl e
+refused_read d o k e = refused_some (eqb (read_refusal d.registers (register_of o)) 0) (read_refusal d.registers (register_of o)) (read_word d.registers d.engine.frame (register_of o)) k refl e
 
 -- A refused access changes nothing ------------------------------------------------------------------------------------
 

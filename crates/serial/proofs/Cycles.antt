@@ -6,7 +6,7 @@ use mathlib.Core.List.{List, ◌∷◌}
 use lib.Dec.{ltb, eqb, eqb-suc-zero}
 use lib.ListN.{length}
 use Rattle.registers.specs.Choose.{pick}
-use Rattle.registers.proofs.Picks.{pick_no, pick-both}
+use Rattle.registers.proofs.Picks.{pick_no, pick_both}
 use Rattle.registers.specs.Model.{Model}
 use Rattle.registers.specs.Settings.{enabled_of, settings_of}
 use Rattle.registers.specs.Transfer.{added, rest, take_word, receive_word, end_cycle}
@@ -24,8 +24,8 @@ use Rattle.frames.specs.declared.lines.Pins.{Pins}
 pub step_keeps : (P : Model → Type 0) (m : Model) (r : Step) → ((x : Model) → P x → P (take_word x)) → ((x : Model) → P x → P (receive_word x r.word)) → P m → P (step_model m r)
 unfolding take_if receive_if
 step_keeps P m r f g h =
-    let t : P (take_if m r.takes) = pick-both P r.takes _ _ (λ _. f m h) (λ _. h) in
-    pick-both P r.complete _ _ (λ _. g (take_if m r.takes) t) (λ _. t)
+    let t : P (take_if m r.takes) = pick_both P r.takes _ _ (λ _. f m h) (λ _. h) in
+    pick_both P r.complete _ _ (λ _. g (take_if m r.takes) t) (λ _. t)
 
 pub control_cycle : (d : DeviceModel) (pins : Pins) → (cycle_of d pins).registers.control ≡ d.registers.control
 unfolding cycle_of end_cycle take_word receive_word
@@ -79,7 +79,7 @@ unfolding settings_of
 active_idle c e z = ap (λ (t : Bool). enabled_of c || (t && c.edition2)) z ∙ or-false (enabled_of c)
 
 pub while_cleared : (s : Settings) → while_active s cleared ≡ cleared
-while_cleared s = pick-both (λ (e : Engine). e ≡ cleared) (active_of s cleared) _ _ (λ _. refl) (λ _. refl)
+while_cleared s = pick_both (λ (e : Engine). e ≡ cleared) (active_of s cleared) _ _ (λ _. refl) (λ _. refl)
 
 -- where it is not active it is clear
 
@@ -89,7 +89,7 @@ step_stopped d pins k = pick_no _ _ k
 
 pub tick_cleared : (s : Settings) → tick_of s cleared ≡ cleared
 unfolding tick_of slave_end master_end resting
-tick_cleared s = pick-both (λ (e : Engine). e ≡ cleared) s.slave _ _ (λ _. refl) (λ _. refl)
+tick_cleared s = pick_both (λ (e : Engine). e ≡ cleared) s.slave _ _ (λ _. refl) (λ _. refl)
 
 pub end_cleared : (s : Settings) → end_of s cleared ≡ cleared
 unfolding end_of

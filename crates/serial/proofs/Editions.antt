@@ -7,7 +7,7 @@ use mathlib.Core.Logic.{◌⊎◌, inl, inr}
 use lib.Dec.{ltb, leb, eqb}
 use lib.ListN.{length}
 use Rattle.registers.specs.Choose.{pick}
-use Rattle.registers.proofs.Picks.{pick_yes, pick_no, pick-both, pick_alike, and_right, or_right}
+use Rattle.registers.proofs.Picks.{pick_yes, pick_no, pick_both, pick_alike, and_right, or_right}
 use Rattle.registers.specs.Model.{Model, with_edition, with_control, with_timeout}
 use Rattle.registers.specs.Time.{cycles, slots}
 use Rattle.registers.specs.Offsets.{register_of}
@@ -44,7 +44,7 @@ use Rattle.serial.proofs.Cycles.{control_cycle, step_file, tx_cycle, active_on, 
 use Rattle.serial.specs.Demand3.{in_edition}
 use Rattle.serial.proofs.Accesses.{engine_enabling}
 use Rattle.serial.proofs.Soundness.{sound_registers_lem, stopped, stopped_elim}
-use Rattle.serial.proofs.Exchange.Enable.{same-loopback, same_role, settings-on}
+use Rattle.serial.proofs.Exchange.Enable.{same-loopback, same_role, settings_on}
 
 -- What accesses and cycles leave ----------------------------------------------------------------------------------------
 
@@ -64,7 +64,7 @@ engine_stays = record { read = λ d o. refl; write = write }
     write : (d : DeviceModel) (o v : ℕ) → (enabled_of d.registers.control ≡ false) ⊎ (enabled_of (write_device d o v).registers.control ≡ true) → (write_device d o v).engine ≡ d.engine
     write d o v (inl k) = engine_enabling d o v k
     write d o v (inr k) =
-        pick-both (λ (e : Engine). e ≡ d.engine) (enabled_of d.registers.control) _ _ (λ _. pick_yes _ _ (active_on (write_model d.registers (active_device d) o v).control d.engine k)) (λ _. refl)
+        pick_both (λ (e : Engine). e ≡ d.engine) (enabled_of d.registers.control) _ _ (λ _. pick_yes _ _ (active_on (write_model d.registers (active_device d) o v).control d.engine k)) (λ _. refl)
 
 pub clearing : Clearing
 unfolding write_device engine_after settings_of
@@ -94,9 +94,9 @@ same-pick : (t : Bool) (x y x' y' : Step) → Same x x' → Same y y' → Same (
 same-pick true x y x' y' p q = p
 same-pick false x y x' y' p q = q
 
-untaken-pick : (t : Bool) (x y : Step) → untaken (pick t x y) ≡ pick t (untaken x) (untaken y)
-untaken-pick true x y = refl
-untaken-pick false x y = refl
+untaken_pick : (t : Bool) (x y : Step) → untaken (pick t x y) ≡ pick t (untaken x) (untaken y)
+untaken_pick true x y = refl
+untaken_pick false x y = refl
 
 same_none : (e : Engine) → Same (no_word e) (no_word e)
 same_none e = record { takes = refl; same = refl }
@@ -146,7 +146,7 @@ module _ (s : Settings) (next : ℕ) where
   unfolding motorola_edges capture_edge drive_edge data_bit
   same_edges r r' before seen h =
       record {
-        takes = pick-both (λ (x : Step). x.takes ≡ false) r.engine.selected _ _ (λ _. ap₂ ◌||◌ h.takes (clock r.engine).takes) (λ _. h.takes);
+        takes = pick_both (λ (x : Step). x.takes ≡ false) r.engine.selected _ _ (λ _. ap₂ ◌||◌ h.takes (clock r.engine).takes) (λ _. h.takes);
         same =
             over (sse false s) next r ∙ ap (edged (sse false s) next) h.same
             ∙ pick_alike (λ (x : Step). x) r'.engine.selected _ _ _ _ (clock r'.engine).same refl
@@ -161,7 +161,7 @@ module _ (s : Settings) (next : ℕ) where
       edged t n u = pick u.engine.selected (untaken (motorola_clock t u.engine (capture_edge t before seen) (drive_edge t before seen) n (data_bit t u.engine.shift.level seen.rxd))) u
 
       over : (t : Settings) (n : ℕ) (u : Step) → untaken (motorola_edges t u before seen n) ≡ edged t n (untaken u)
-      over t n u = untaken-pick u.engine.selected _ u
+      over t n u = untaken_pick u.engine.selected _ u
 
   same-motorola : (e : Engine) (before seen : Pins) → Same (motorola_slave (sse false s) e before seen next) (motorola_slave (sse true s) e before seen 0)
   unfolding motorola_slave
@@ -184,9 +184,9 @@ module _ (s : Settings) (next : ℕ) where
       same-pick (clock_falls before seen) _ _ _ _ (same_falls e seen.fss (data_bit s e.shift.level seen.rxd))
       (same-pick (clock_rises before seen) _ _ _ _ (same_rises e) (same_none e))
 
-  same-microwire_rises : (e : Engine) (bit : Bool) → Same (microwire_rises (sse false s) e next bit) (microwire_rises (sse true s) e 0 bit)
+  same_microwire_rises : (e : Engine) (bit : Bool) → Same (microwire_rises (sse false s) e next bit) (microwire_rises (sse true s) e 0 bit)
   unfolding microwire_rises data_rises
-  same-microwire_rises e bit =
+  same_microwire_rises e bit =
       same-pick (leb 17 e.slot.0) _ _ _ _ (same_none _)
       (same-pick (control_left s e) _ _ _ _ (same_capture bit _) (same-take (with_slot e (slots 17))))
 
@@ -195,7 +195,7 @@ module _ (s : Settings) (next : ℕ) where
   same-microwire e before seen =
       let x = microwire_select e before.fss in
       same-pick seen.fss _ _ _ _ (same_none cleared)
-      (same-pick (x.selected && clock_rises before seen) _ _ _ _ (same-microwire_rises x (data_bit s false seen.rxd))
+      (same-pick (x.selected && clock_rises before seen) _ _ _ _ (same_microwire_rises x (data_bit s false seen.rxd))
       (same-pick (x.selected && clock_falls before seen) _ _ _ _ (same_none _) (same_none x)))
 
   same_slave : (e : Engine) (before seen : Pins) → Same (slave_step (sse false s) e before seen next) (slave_step (sse true s) e before seen 0)
@@ -355,8 +355,8 @@ none_waits m k = ap (λ (t : Bool). t && not (eqb (length m.tx) 0)) k
 abbrev running : Settings → Engine → History → Pins → ℕ → Step
 running s e h pins next = pick s.slave (slave_step s e h.oldest h.middle next) (master_step s e false next pins.rxd)
 
-same-running : (s : Settings) (e : Engine) (h : History) (pins : Pins) (next : ℕ) → Same (running (sse false s) e h pins next) (running (sse true s) e h pins 0)
-same-running s e h pins next = same-pick s.slave _ _ _ _ (same_slave s next e h.oldest h.middle) (same_master s next e pins.rxd)
+same_running : (s : Settings) (e : Engine) (h : History) (pins : Pins) (next : ℕ) → Same (running (sse false s) e h pins next) (running (sse true s) e h pins 0)
+same_running s e h pins next = same-pick s.slave _ _ _ _ (same_slave s next e h.oldest h.middle) (same_master s next e pins.rxd)
 
 -- the step with SSE clear
 step_off : (d : DeviceModel) (pins : Pins) → enabled_of d.registers.control ≡ false
@@ -373,7 +373,7 @@ none_taken d pins k =
     tx_cycle d pins
     ∙ pick_no _ _
     (ap (λ (r : Step). r.takes) (step_off d pins k)
-    ∙ pick-both (λ (r : Step). r.takes ≡ false) (e.frame && s.edition2) _ _ (λ _. (same-running s e d.pins pins (next_word d.registers)).takes) (λ _. refl))
+    ∙ pick_both (λ (r : Step). r.takes ≡ false) (e.frame && s.edition2) _ _ (λ _. (same_running s e d.pins pins (next_word d.registers)).takes) (λ _. refl))
 
 -- a frame with SSE clear is one of edition 2
 frame_edition : (d : DeviceModel) → sound_device d ≡ true → enabled_of d.registers.control ≡ false → d.engine.frame ≡ true → d.registers.control.edition2 ≡ true
@@ -411,14 +411,14 @@ module _ (d : DeviceModel) (pins : Pins) (h : sound_device d ≡ true) (k : enab
   on = running (sse true (settings_of d.registers.control)) d.engine d.pins pins 0
 
   alike : untaken off ≡ untaken on
-  alike = (same-running own d.engine d.pins pins (next_word d.registers)).same
+  alike = (same_running own d.engine d.pins pins (next_word d.registers)).same
 
   is_off : device_step d pins ≡ off
   unfolding step_of settings_of
   is_off = step_off d pins k ∙ pick_yes _ _ (ap₂ ◌&&◌ f (frame_edition d h k f))
 
   set_on : settings_of (switched_on d.registers.control) ≡ sse true (settings_of d.registers.control)
-  set_on = settings-on c (sound_elim d.registers _ (sound_registers_lem d h)).control.cr1 k
+  set_on = settings_on c (sound_elim d.registers _ (sound_registers_lem d h)).control.cr1 k
 
   is_on : device_step (enabled_empty d) pins ≡ on
   unfolding device_step step_of waiting_of next_word
@@ -526,7 +526,7 @@ frame_refusal d o v h k f =
     let rule_on : Bool → ℕ = λ (a : Bool). first_of (write_access (register_of o) v) (write_rule (with_sse d).registers a (register_of o) v) in
     ap rule (frame_active d h k f)
     ∙ ap (first_of (write_access (register_of o) v)) (write_rule_lem m small k (register_of o) v)
-    ∙ sym (ap rule_on (active_on (with_sse d).registers.control d.engine (ap (λ (s : Settings). s.enabled) (settings-on m.control small k))))
+    ∙ sym (ap rule_on (active_on (with_sse d).registers.control d.engine (ap (λ (s : Settings). s.enabled) (settings_on m.control small k))))
 
 pub frame_goes_on : FrameGoesOn
 frame_goes_on = record { edition = frame_edition; cycle = goes_as; refusal = frame_refusal }

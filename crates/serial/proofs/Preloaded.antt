@@ -27,7 +27,7 @@ use Rattle.serial.proofs.Accesses.{engine_enabling}
 use Rattle.serial.proofs.Cycles.{active_idle}
 use Rattle.serial.proofs.Soundness.{sound_reset, sound_write}
 use Rattle.serial.proofs.Drawing.Recorded.{Fresh, total_edition, drawing_edition}
-use Rattle.serial.proofs.Drawing.Enabled.{fresh_enabling, enabling-recorded}
+use Rattle.serial.proofs.Drawing.Enabled.{fresh_enabling, enabling_recorded}
 
 -- A device that is still off ---------------------------------------------------------------------------------------------
 
@@ -134,8 +134,8 @@ settings_edition : (e : Bool) (c : Control) → settings_of (with_edition c e) �
 unfolding settings_of divisor_of enabled_of
 settings_edition e c = refl
 
-meant-set : (e : Bool) (cr0 cpsr : ℕ) (ws : List ℕ) → settings_of (enabled_with e cr0 cpsr ws).registers.control ≡ in_edition e (meant cr0 cpsr)
-meant-set e cr0 cpsr ws = ap settings_of (alike_enabled e cr0 cpsr ws) ∙ settings_edition e (control_with cr0 cpsr)
+meant_set : (e : Bool) (cr0 cpsr : ℕ) (ws : List ℕ) → settings_of (enabled_with e cr0 cpsr ws).registers.control ≡ in_edition e (meant cr0 cpsr)
+meant_set e cr0 cpsr ws = ap settings_of (alike_enabled e cr0 cpsr ws) ∙ settings_edition e (control_with cr0 cpsr)
 
 -- CR1 is 0 until then, and then SSE alone: a master
 meant_master : (cr0 cpsr : ℕ) → (meant cr0 cpsr).slave ≡ false
@@ -144,9 +144,9 @@ meant_master cr0 cpsr =
     let d = configured false cr0 cpsr in
     cr1_either (λ (n : ℕ). bit_at n 2 ≡ false) d.registers (active_device d) enabled refl (ap (λ (n : ℕ). bit_at n 2) (off_set false cr0 cpsr).none)
 
-meant-enabled : (cr0 cpsr : ℕ) → enabled_of (control_with cr0 cpsr) ≡ true → (meant cr0 cpsr).enabled ≡ true
+meant_enabled : (cr0 cpsr : ℕ) → enabled_of (control_with cr0 cpsr) ≡ true → (meant cr0 cpsr).enabled ≡ true
 unfolding settings_of
-meant-enabled cr0 cpsr h = h
+meant_enabled cr0 cpsr h = h
 
 -- The last write enables a master with these settings, whatever the words.
 pub enabling : (e : Bool) (cr0 cpsr : ℕ) (ws : List ℕ) → enabled_of (control_with cr0 cpsr) ≡ true
@@ -159,8 +159,8 @@ enabling e cr0 cpsr ws h =
       sound = k.sound;
       clear = off_clear d k;
       idle = k.frame;
-      set = meant-set e cr0 cpsr ws;
-      enabled = meant-enabled cr0 cpsr h;
+      set = meant_set e cr0 cpsr ws;
+      enabled = meant_enabled cr0 cpsr h;
       master = meant_master cr0 cpsr;
     }
 
@@ -217,14 +217,14 @@ shown s e d o v k ws t ps l =
     let cycles : Slots → ℕ = λ u. (cycles_of u s.divisor).0 in
     let long : length ps ≡ (cycles_of (slot_total (in_edition e s) (length xs)) s.divisor).0 + 0 =
     omega (arith, l, ap (λ (u : List ℕ). cycles (slot_total s (length u))) t, ap cycles (total_edition e s (length xs))) in
-    enabling-recorded (in_edition e s) d o v k ps 0 long
+    enabling_recorded (in_edition e s) d o v k ps 0 long
     ∙ append-nil (stretch h (drawing (in_edition e s) xs))
     ∙ ap (stretch h) (drawing_edition e s xs)
     ∙ ap (λ (u : List ℕ). stretch h (drawing s u)) t
 
 -- So does one made by writes alone, of the words that it was preloaded with.
-pub enabled-shown : (e : Bool) (cr0 cpsr : ℕ) → enabled_of (control_with cr0 cpsr) ≡ true → (ws : List ℕ) → length ws ≤ 8 → Sixteen ws → (ps : List Pins)
+pub enabled_shown : (e : Bool) (cr0 cpsr : ℕ) → enabled_of (control_with cr0 cpsr) ≡ true → (ws : List ℕ) → length ws ≤ 8 → Sixteen ws → (ps : List Pins)
     → length ps ≡ (cycles_of (slot_total (meant cr0 cpsr) (length ws)) (meant cr0 cpsr).divisor).0
     → recording (enabled_with e cr0 cpsr ws) ps ≡ stretch (meant cr0 cpsr).divisor.0 (drawing (meant cr0 cpsr) ws)
 unfolding enabled_with
-enabled-shown e cr0 cpsr h ws n s ps l = shown (meant cr0 cpsr) e (preloaded (configured e cr0 cpsr) ws) CR1 enabled (enabling e cr0 cpsr ws h) ws (loaded-words e cr0 cpsr ws n s) ps l
+enabled_shown e cr0 cpsr h ws n s ps l = shown (meant cr0 cpsr) e (preloaded (configured e cr0 cpsr) ws) CR1 enabled (enabling e cr0 cpsr ws h) ws (loaded-words e cr0 cpsr ws n s) ps l

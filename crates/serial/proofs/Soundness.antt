@@ -10,7 +10,7 @@ use borrow.Author.Tests.{ltb-true, leb-true, leb-false, eqb-true, lt-ltb, le-leb
 use Rattle.registers.specs.Time.{slots}
 use Rattle.registers.specs.Choose.{pick}
 use Rattle.registers.specs.Bits.{bit_at}
-use Rattle.registers.proofs.Picks.{pick_yes, pick_no, pick-both, and_left, and_right, and_both, or_right, not_elim}
+use Rattle.registers.proofs.Picks.{pick_yes, pick_no, pick_both, and_left, and_right, and_both, or_right, not_elim}
 use Rattle.registers.specs.Model.{Model}
 use Rattle.registers.specs.Settings.{format_of, bits_of, divisor_of, enabled_of, settings_of}
 use Rattle.registers.specs.Access.{write_model, read_model}
@@ -72,7 +72,7 @@ Lands last Pause = Unit {0}
 
 module _ (last : ℕ) where
   lands_pick : (t : Bool) (x y : Event) → Lands last x → Lands last y → Lands last (pick t x y)
-  lands_pick t x y p q = pick-both (λ (v : Event). Lands last v) t x y (λ _. p) (λ _. q)
+  lands_pick t x y p q = pick_both (λ (v : Event). Lands last v) t x y (λ _. p) (λ _. q)
 
 event_lands_on : (f : Format) (phase : Bool) (b n : ℕ) → Lands (last_on f b) (event_on f phase b n)
 unfolding motorola_event ti_event microwire_event
@@ -127,7 +127,7 @@ module _ (F : Type 0) (b : ℕ) where
   shift_captured : (bit : Bool) (x : Shift) → ShiftFacts F b x → ShiftFacts F b (captured_of b bit x)
   unfolding captured_of shifted_in
   shift_captured bit x t =
-      pick-both (λ (y : Shift). ShiftFacts F b y) (ltb x.captured b) _ _
+      pick_both (λ (y : Shift). ShiftFacts F b y) (ltb x.captured b) _ _
       (λ e. record { captured = let l = ltb-true x.captured b e in omega arith; sending = t.sending; receiving = λ _. omega arith })
       (λ _. t)
 
@@ -142,16 +142,16 @@ module _ (F : Type 0) (s : Settings) where
   step_none e t = record { engine = t; word = omega arith }
 
   step_pick : (t : Bool) (x y : Step) → StepFacts F s x → StepFacts F s y → StepFacts F s (pick t x y)
-  step_pick t x y p q = pick-both (λ (r : Step). StepFacts F s r) t x y (λ _. p) (λ _. q)
+  step_pick t x y p q = pick_both (λ (r : Step). StepFacts F s r) t x y (λ _. p) (λ _. q)
 
   engine_pick : (t : Bool) (x y : Engine) → (t ≡ true → EngineFacts F s x) → (t ≡ false → EngineFacts F s y) → EngineFacts F s (pick t x y)
-  engine_pick t x y p q = pick-both (λ (e : Engine). EngineFacts F s e) t x y p q
+  engine_pick t x y p q = pick_both (λ (e : Engine). EngineFacts F s e) t x y p q
 
   step_capture : (bit : Bool) (e : Engine) → EngineFacts F s e → StepFacts F s (capture_step (capture_width s) bit e)
   unfolding capture_step shifted_in
   step_capture bit e t = record {
     engine = record { slot = t.slot; elapsed = t.elapsed; shift = shift_captured F (capture_width s) bit e.shift t.shift };
-    word = pick-both (λ (n : ℕ). n < 0x10000) (completes (capture_width s) e.shift) _ _ (λ _. let l = mod-le (shifted_in e.shift.receiving bit) (2 ^ capture_width s) in omega arith) (λ _. omega arith);
+    word = pick_both (λ (n : ℕ). n < 0x10000) (completes (capture_width s) e.shift) _ _ (λ _. let l = mod-le (shifted_in e.shift.receiving bit) (2 ^ capture_width s) in omega arith) (λ _. omega arith);
   }
 
   step_drive : (i width : ℕ) (e : Engine) → EngineFacts F s e → StepFacts F s (no_word (with_shift e (driven width i e.shift)))
@@ -164,7 +164,7 @@ module _ (F : Type 0) (s : Settings) where
 
   -- zeros, or a word that fits
   offered_fits : (may : Bool) (next : ℕ) → (F → next < 0x10000) → F → offered may next < 0x10000
-  offered_fits may next n f = pick-both (λ (x : ℕ). x < 0x10000) may _ _ (λ _. n f) (λ _. omega arith)
+  offered_fits may next n f = pick_both (λ (x : ℕ). x < 0x10000) may _ _ (λ _. n f) (λ _. omega arith)
 
   step_act : (e : Engine) (waiting : Bool) (next : ℕ) (bit : Bool) (v : Event) → EngineFacts F s e → (F → next < 0x10000) → Lands (last_slot s).0 v → StepFacts F s (act s e waiting next bit v)
   step_act e waiting next bit Begin t n l = record {
@@ -406,9 +406,9 @@ pub sound_engine : (d : DeviceModel) → sound_device d ≡ true → engine_soun
 unfolding sound_device
 sound_engine d h = and_right (sound_registers d.registers (active_device d)) _ h
 
-sound-both : (d : DeviceModel) → sound_registers d.registers (active_device d) ≡ true → engine_sound (settings_of d.registers.control) d.engine ≡ true → sound_device d ≡ true
+sound_both : (d : DeviceModel) → sound_registers d.registers (active_device d) ≡ true → engine_sound (settings_of d.registers.control) d.engine ≡ true → sound_device d ≡ true
 unfolding sound_device
-sound-both d m e = and_both _ _ m e
+sound_both d m e = and_both _ _ m e
 
 -- the control registers, as far as SSE asks for it
 enabled_facts : (m : Model) (active : Bool) → Enables m.control active → sound_registers m active ≡ true → ControlFacts m.control (enabled_of m.control)
@@ -436,16 +436,16 @@ pub stopped : (d : DeviceModel) → sound_device d ≡ true → active_device d 
 unfolding engine_sound
 stopped d h k = sym (pick_no _ _ k) ∙ sound_engine d h
 
-running-sound : (c : Control) (e : Engine) → active_of (settings_of c) e ≡ true → running_sound (settings_of c) e ≡ true → engine_sound (settings_of c) e ≡ true
+running_sound_lem : (c : Control) (e : Engine) → active_of (settings_of c) e ≡ true → running_sound (settings_of c) e ≡ true → engine_sound (settings_of c) e ≡ true
 unfolding engine_sound
-running-sound c e k h = pick_yes _ _ k ∙ h
+running_sound_lem c e k h = pick_yes _ _ k ∙ h
 
 -- a stopped engine is sound whatever the control registers say
-stopped-sound : (c : Control) (e : Engine) → ControlFacts c (enabled_of c) → stopped_sound e ≡ true → engine_sound (settings_of c) e ≡ true
+stopped_sound_lem : (c : Control) (e : Engine) → ControlFacts c (enabled_of c) → stopped_sound e ≡ true → engine_sound (settings_of c) e ≡ true
 unfolding engine_sound settings_of
-stopped-sound c e t h =
+stopped_sound_lem c e t h =
     let z = stopped_elim e h in
-    pick-both (λ (x : Bool). x ≡ true) (active_of (settings_of c) e) _ _
+    pick_both (λ (x : Bool). x ≡ true) (active_of (settings_of c) e) _ _
     (λ k. running_intro ⊥ (settings_of c) e (record {
       slot = let p = z.slot in omega arith;
       elapsed = let p = z.elapsed in let q = divisor_positive c (enabled_of c) t (sym (active_idle c e z.frame) ∙ k) in omega arith;
@@ -453,9 +453,9 @@ stopped-sound c e t h =
     }))
     (λ _. h)
 
-cleared-sound : (c : Control) → ControlFacts c (enabled_of c) → engine_sound (settings_of c) cleared ≡ true
+cleared_sound : (c : Control) → ControlFacts c (enabled_of c) → engine_sound (settings_of c) cleared ≡ true
 unfolding stopped_sound
-cleared-sound c t = stopped-sound c cleared t refl
+cleared_sound c t = stopped_sound_lem c cleared t refl
 
 cleared_fit : EngineFit cleared
 cleared_fit = record { slot = omega arith; elapsed = omega arith; captured = omega arith; sending = omega arith; receiving = omega arith }
@@ -469,7 +469,7 @@ reset_registers_lem edition2 = file.sound_reset edition2
 pub sound_reset : (edition2 : Bool) → sound_device (reset_device edition2) ≡ true
 sound_reset edition2 =
     let d = reset_device edition2 in
-    sound-both d (reset_registers_lem edition2) (cleared-sound _ (enabled_facts d.registers (active_device d) (active_on _ cleared) (reset_registers_lem edition2)))
+    sound_both d (reset_registers_lem edition2) (cleared_sound _ (enabled_facts d.registers (active_device d) (active_on _ cleared) (reset_registers_lem edition2)))
 
 pub fits_reset : (edition2 : Bool) → device_fits (reset_device edition2) ≡ true
 fits_reset edition2 = fits_both (reset_device edition2) (file.fits_reset edition2) cleared_fit
@@ -478,7 +478,7 @@ pub sound_read : (d : DeviceModel) (o : ℕ) → sound_device d ≡ true → sou
 unfolding read_device
 sound_read d o h =
     let m = d.registers in
-    sound-both _ (ap (λ (c : Control). sound_registers (read_model m o) (active_of (settings_of c) d.engine)) (control_read m o) ∙ file.sound_read m (active_device d) o (active_on _ d.engine) (sound_registers_lem d h))
+    sound_both _ (ap (λ (c : Control). sound_registers (read_model m o) (active_of (settings_of c) d.engine)) (control_read m o) ∙ file.sound_read m (active_device d) o (active_on _ d.engine) (sound_registers_lem d h))
     (ap (λ (c : Control). engine_sound (settings_of c) d.engine) (control_read d.registers o) ∙ sound_engine d h)
 
 pub fits_read : (d : DeviceModel) (o : ℕ) → device_fits d ≡ true → device_fits (read_device d o) ≡ true
@@ -491,9 +491,9 @@ unfolding engine_sound running_sound settings_of divisor_of last_slot
 written_runs m n e same k h = rw (same.cr0, same.cpsr, same.role) (sym (pick_yes _ _ k) ∙ h)
 
 -- the engine after a write is the one before it or clear
-after-either : (P : Engine → Type 0) (m n : Model) (e : Engine) → (enabled_of m.control ≡ false → P e) → (active_of (settings_of n.control) e ≡ true → P e) → P cleared → P (engine_after m n e)
+after_either : (P : Engine → Type 0) (m n : Model) (e : Engine) → (enabled_of m.control ≡ false → P e) → (active_of (settings_of n.control) e ≡ true → P e) → P cleared → P (engine_after m n e)
 unfolding engine_after
-after-either P m n e off on z = pick-both P (enabled_of m.control) _ _ (λ _. pick-both P (active_of (settings_of n.control) e) _ _ on (λ _. z)) off
+after_either P m n e off on z = pick_both P (enabled_of m.control) _ _ (λ _. pick_both P (active_of (settings_of n.control) e) _ _ on (λ _. z)) off
 
 -- a frame in progress with SSE clear was so before the write
 active_before : (m n : Model) (e : Engine) → n.control.edition2 ≡ m.control.edition2 → active_of (settings_of n.control) e ≡ true → (active_of (settings_of m.control) e ≡ true) ⊎ (enabled_of n.control ≡ true)
@@ -521,7 +521,7 @@ module _ (d : DeviceModel) (o v : ℕ) where
   becomes_active : active_device (write_device d o v) ≡ true → (active_device d ≡ true) ⊎ (enabled_of written.control ≡ true)
   unfolding write_device
   becomes_active =
-      after-either (λ (e : Engine). active_of (settings_of written.control) e ≡ true → (active_device d ≡ true) ⊎ (enabled_of written.control ≡ true)) d.registers written d.engine
+      after_either (λ (e : Engine). active_of (settings_of written.control) e ≡ true → (active_device d ≡ true) ⊎ (enabled_of written.control ≡ true)) d.registers written d.engine
       (λ _ k. active_before d.registers written d.engine same_edition k)
       (λ _ k. active_before d.registers written d.engine same_edition k)
       (λ k. inr (sym (active_idle written.control cleared refl) ∙ k))
@@ -544,23 +544,23 @@ module _ (d : DeviceModel) (o v : ℕ) where
       go : (x : Bool) → active_device d ≡ x → Holds (engine_after d.registers written d.engine)
       go true k =
           let r = written_runs d.registers written d.engine (bounds_write d.registers (active_device d) o v k) k (sound_engine d h) in
-          after-either Holds d.registers written d.engine
-          (λ off. running-sound written.control d.engine (active_after d.registers written d.engine same_edition off k) r)
-          (λ on. running-sound written.control d.engine on r)
-          (cleared-sound written.control facts)
+          after_either Holds d.registers written d.engine
+          (λ off. running_sound_lem written.control d.engine (active_after d.registers written d.engine same_edition off k) r)
+          (λ on. running_sound_lem written.control d.engine on r)
+          (cleared_sound written.control facts)
       go false k =
-          let z = stopped-sound written.control d.engine facts (stopped d h k) in
-          after-either Holds d.registers written d.engine (λ _. z) (λ _. z) (cleared-sound written.control facts)
+          let z = stopped_sound_lem written.control d.engine facts (stopped d h k) in
+          after_either Holds d.registers written d.engine (λ _. z) (λ _. z) (cleared_sound written.control facts)
 
 pub sound_write : (d : DeviceModel) (o v : ℕ) → sound_device d ≡ true → sound_device (write_device d o v) ≡ true
 unfolding write_device
-sound_write d o v h = sound-both (write_device d o v) (registers_write d o v h) (engine_write d o v h)
+sound_write d o v h = sound_both (write_device d o v) (registers_write d o v h) (engine_write d o v h)
 
 pub fits_write : (d : DeviceModel) (o v : ℕ) → device_fits d ≡ true → device_fits (write_device d o v) ≡ true
 unfolding write_device
 fits_write d o v h =
     fits_both _ (file.fits_write d.registers (active_device d) o v (fits_registers d h))
-    (after-either EngineFit d.registers (write_model d.registers (active_device d) o v) d.engine (λ _. engine_fit d h) (λ _. engine_fit d h) cleared_fit)
+    (after_either EngineFit d.registers (write_model d.registers (active_device d) o v) d.engine (λ _. engine_fit d h) (λ _. engine_fit d h) cleared_fit)
 
 -- A cycle ------------------------------------------------------------------------------------------------------------
 
@@ -568,7 +568,7 @@ registers_cycle : (d : DeviceModel) (pins : Pins) → sound_device d ≡ true �
 unfolding cycle_of take_word receive_word
 registers_cycle d pins h =
     let a = active_device d in
-    let k = step_keeps (λ (x : Model). (Enables x.control a) × (sound_registers x a ≡ true)) d.registers (device_step d pins) (λ x k. (k.0, file.sound-take x a k.1)) (λ x k. (k.0, file.sound_receive x a (device_step d pins).word k.1)) (active_on _ d.engine, sound_registers_lem d h) in
+    let k = step_keeps (λ (x : Model). (Enables x.control a) × (sound_registers x a ≡ true)) d.registers (device_step d pins) (λ x k. (k.0, file.sound_take x a k.1)) (λ x k. (k.0, file.sound_receive x a (device_step d pins).word k.1)) (active_on _ d.engine, sound_registers_lem d h) in
     file.sound_end _ a _ k.0 k.1
 
 fits_registers_cycle : (d : DeviceModel) (pins : Pins) → (device_step d pins).word < 0x10000 → registers_fit d.registers ≡ true → registers_fit (cycle_of d pins).registers ≡ true
@@ -603,12 +603,12 @@ cycle_active d pins h k =
 -- at its end the engine is active or clear
 end_either : (P : Engine → Type 0) (s : Settings) (e : Engine) → (active_of s (end_of s e) ≡ true → P (end_of s e)) → P cleared → P (end_of s e)
 unfolding end_of
-end_either P s e = pick-both (λ (x : Engine). (active_of s x ≡ true → P x) → P cleared → P x) (active_of s (tick_of s e)) _ _ (λ k f _. f k) (λ _ _ z. z)
+end_either P s e = pick_both (λ (x : Engine). (active_of s x ≡ true → P x) → P cleared → P x) (active_of s (tick_of s e)) _ _ (λ k f _. f k) (λ _ _ z. z)
 
 pub sound_cycle : (d : DeviceModel) (pins : Pins) → sound_device d ≡ true → sound_device (cycle_of d pins) ≡ true
 unfolding cycle_of
 sound_cycle d pins h =
-    sound-both (cycle_of d pins) (file.sound_active (cycle_of d pins).registers (active_device d) (active_device (cycle_of d pins)) was_active (registers_cycle d pins h))
+    sound_both (cycle_of d pins) (file.sound_active (cycle_of d pins).registers (active_device d) (active_device (cycle_of d pins)) was_active (registers_cycle d pins h))
     (ap (λ (c : Control). engine_sound (settings_of c) (cycle_of d pins).engine) (control_cycle d pins) ∙ go (active_device d) refl)
   where
     facts : ControlFacts d.registers.control (enabled_of d.registers.control)
@@ -625,9 +625,9 @@ sound_cycle d pins h =
     go : (x : Bool) → active_device d ≡ x → engine_sound (settings_of d.registers.control) (cycle_of d pins).engine ≡ true
     go true k =
         end_either (λ (e : Engine). engine_sound (settings_of d.registers.control) e ≡ true) (settings_of d.registers.control) (device_step d pins).engine
-        (λ a. running-sound d.registers.control _ a (running_intro _ _ _ (cycle_active d pins h k)))
-        (cleared-sound d.registers.control facts)
-    go false k = ap (λ (e : Engine). engine_sound (settings_of d.registers.control) e) (cycle_stopped d pins k) ∙ cleared-sound d.registers.control facts
+        (λ a. running_sound_lem d.registers.control _ a (running_intro _ _ _ (cycle_active d pins h k)))
+        (cleared_sound d.registers.control facts)
+    go false k = ap (λ (e : Engine). engine_sound (settings_of d.registers.control) e) (cycle_stopped d pins k) ∙ cleared_sound d.registers.control facts
 
 -- a running engine within its bounds has room in the bytes
 last_most : (f : Format) (b : ℕ) → b ≤ 16 → last_on f b ≤ 52
@@ -639,7 +639,7 @@ last_most Reserved b h = omega arith
 capture_most : (f : Format) (slave : Bool) (b : ℕ) → b ≤ 16 → capture_on f slave b ≤ 16
 capture_most Motorola slave b h = h
 capture_most Ti slave b h = h
-capture_most Microwire slave b h = pick-both (λ (n : ℕ). n ≤ 16) slave 8 b (λ _. omega arith) (λ _. h)
+capture_most Microwire slave b h = pick_both (λ (n : ℕ). n ≤ 16) slave 8 b (λ _. omega arith) (λ _. h)
 capture_most Reserved slave b h = h
 
 running_fit : (F : Type 0) (c : Control) (e : Engine) → c.cpsr < 0x100 → EngineFacts F (settings_of c) e → F → EngineFit e

@@ -5,7 +5,7 @@ use mathlib.Core.Bool.{Bool, true, false, not, ◌&&◌, and-false}
 use lib.Dec.{ltb, eqb}
 use borrow.Author.Tests.{lt-ltb, le-ltb, ne_eqb}
 use Rattle.registers.specs.Choose.{pick}
-use Rattle.registers.proofs.Picks.{pick_yes, pick_no, pick-both}
+use Rattle.registers.proofs.Picks.{pick_yes, pick_no, pick_both}
 use Rattle.registers.specs.Settings.{settings_of}
 use Rattle.registers.specs.Time.{cycles, slots}
 use Rattle.registers.specs.Transfer.{waiting_of, next_word}
@@ -57,9 +57,9 @@ act_elapsed s e w n d BeginDrive = refl
 act_elapsed s e w n d (Drive i) = refl
 act_elapsed s e w n d First = refl
 act_elapsed s e w n d Capture = refl
-act_elapsed s e w n d (Chain k) = pick-both (λ (r : Step). r.engine.elapsed ≡ e.elapsed) w _ _ (λ _. refl) (λ _. refl)
-act_elapsed s e w n d (JoinDrive i) = pick-both (λ (r : Step). r.engine.elapsed ≡ e.elapsed) w _ _ (λ _. refl) (λ _. refl)
-act_elapsed s e w n d JoinCapture = pick-both (λ (r : Step). r.engine.elapsed ≡ e.elapsed) (eqb e.shift.captured 0) _ _ (λ _. refl) (λ _. refl)
+act_elapsed s e w n d (Chain k) = pick_both (λ (r : Step). r.engine.elapsed ≡ e.elapsed) w _ _ (λ _. refl) (λ _. refl)
+act_elapsed s e w n d (JoinDrive i) = pick_both (λ (r : Step). r.engine.elapsed ≡ e.elapsed) w _ _ (λ _. refl) (λ _. refl)
+act_elapsed s e w n d JoinCapture = pick_both (λ (r : Step). r.engine.elapsed ≡ e.elapsed) (eqb e.shift.captured 0) _ _ (λ _. refl) (λ _. refl)
 act_elapsed s e w n d Quiet = refl
 act_elapsed s e w n d Release = refl
 act_elapsed s e w n d Pause = refl
@@ -71,7 +71,7 @@ step_elapsed s c e w n d =
     let x = elapsed_at c e in
     let y = (master_step s x w n d).engine in
     ap (λ (g : Cycles). with_elapsed y g)
-    (pick-both (λ (r : Step). r.engine.elapsed ≡ cycles c) (acting x w) _ _ (λ _. act_elapsed s x w n (data_bit s (master_txd s x) d) (event_of s e.slot)) (λ _. refl))
+    (pick_both (λ (r : Step). r.engine.elapsed ≡ cycles c) (acting x w) _ _ (λ _. act_elapsed s x w n (data_bit s (master_txd s x) d) (event_of s e.slot)) (λ _. refl))
 
 -- The end of a cycle ---------------------------------------------------------------------------------------------------
 
@@ -104,7 +104,7 @@ module _ (s : Settings) where
   -- a slot begins with no cycle elapsed
   pub next_elapsed : (e : Engine) → next_slot e ≡ elapsed_at 0 (next_slot e)
   unfolding next_slot
-  next_elapsed e = pick-both (λ (x : Engine). x ≡ elapsed_at 0 x) (ltb e.slot.0 (last_slot s).0) _ _ (λ _. refl) (λ _. refl)
+  next_elapsed e = pick_both (λ (x : Engine). x ≡ elapsed_at 0 x) (ltb e.slot.0 (last_slot s).0) _ _ (λ _. refl) (λ _. refl)
 
   -- a slot in a frame, and the last one
   pub next_within : (e : Engine) → e.slot.0 < (last_slot s).0
@@ -122,9 +122,9 @@ module _ (s : Settings) where
 lines_end : (s : Settings) (e : Engine) → ((master_end s e).elapsed.0 ≡ 0 → ⊥) → master_lines s (master_end s e) ≡ master_lines s e
 unfolding master_end ticked master_lines master_txd
 lines_end s e =
-    pick-both Kept (resting e) _ _ (λ _ _. refl)
-    (λ _. pick-both Kept (ltb (e.elapsed.0 + 1) s.divisor.0) _ _ (λ _ _. refl)
-    (λ _. pick-both Kept (ltb e.slot.0 (last_slot s).0) _ _ (λ _ h. absurd (h refl)) (λ _ h. absurd (h refl))))
+    pick_both Kept (resting e) _ _ (λ _ _. refl)
+    (λ _. pick_both Kept (ltb (e.elapsed.0 + 1) s.divisor.0) _ _ (λ _ _. refl)
+    (λ _. pick_both Kept (ltb e.slot.0 (last_slot s).0) _ _ (λ _ h. absurd (h refl)) (λ _ h. absurd (h refl))))
   where
     Kept : Engine → Type 0
     Kept x = (x.elapsed.0 ≡ 0 → ⊥) → master_lines s x ≡ master_lines s e
@@ -133,11 +133,11 @@ lines_end s e =
 
 end_live : (s : Settings) (e : Engine) → ((end_of s e).elapsed.0 ≡ 0 → ⊥) → end_of s e ≡ tick_of s e
 unfolding end_of
-end_live s e = pick-both (λ (x : Engine). (x.elapsed.0 ≡ 0 → ⊥) → x ≡ tick_of s e) (active_of s (tick_of s e)) _ _ (λ _ _. refl) (λ _ h. absurd (h refl))
+end_live s e = pick_both (λ (x : Engine). (x.elapsed.0 ≡ 0 → ⊥) → x ≡ tick_of s e) (active_of s (tick_of s e)) _ _ (λ _ _. refl) (λ _ h. absurd (h refl))
 
 end_active : (s : Settings) (e : Engine) → ((end_of s e).elapsed.0 ≡ 0 → ⊥) → active_of s (end_of s e) ≡ true
 unfolding end_of
-end_active s e = pick-both (λ (x : Engine). (x.elapsed.0 ≡ 0 → ⊥) → active_of s x ≡ true) (active_of s (tick_of s e)) _ _ (λ a _. a) (λ _ h. absurd (h refl))
+end_active s e = pick_both (λ (x : Engine). (x.elapsed.0 ≡ 0 → ⊥) → active_of s x ≡ true) (active_of s (tick_of s e)) _ _ (λ a _. a) (λ _ h. absurd (h refl))
 
 active_live : (d : DeviceModel) (pins : Pins) → ((cycle_of d pins).engine.elapsed.0 ≡ 0 → ⊥) → active_device (cycle_of d pins) ≡ true
 unfolding cycle_of

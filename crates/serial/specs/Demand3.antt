@@ -228,7 +228,7 @@ LastSentence =
 -- The recording of a load ------------------------------------------------------------------------------------------------
 
 -- From the write that enables a master on, its lines are the drawing of its load, each entry for h cycles, and idle lines
--- after it, whatever its pins carry. Proof: `enabling-recorded` in proofs/Drawing/Enabled.antt.
+-- after it, whatever its pins carry. Proof: `enabling_recorded` in proofs/Drawing/Enabled.antt.
 abbrev pub Recorded : Type 0
 Recorded =
     (s : Settings) (d : DeviceModel) (o v : ℕ) → Enabling s d o v → (ps : List Pins) (k : ℕ)

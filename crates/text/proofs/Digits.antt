@@ -88,9 +88,9 @@ ends LineFeed = 1
 ends Other = 0
 
 -- What is read as a line feed is one.
-pub feed-written : (x : ℕ) → character_of x ≡ LineFeed → x ≡ line_feed
+pub feed_written : (x : ℕ) → character_of x ≡ LineFeed → x ≡ line_feed
 unfolding character_of
-feed-written x e = go (eqb x 10) (leb 48 x && leb x 57) (leb 65 x && leb x 70) refl (ap ends e)
+feed_written x e = go (eqb x 10) (leb 48 x && leb x 57) (leb 65 x && leb x 70) refl (ap ends e)
   where
     go : (f s t : Bool) → eqb x 10 ≡ f → ends (pick f LineFeed (pick s (Digit (x - 48)) (pick t (Digit (x - 55)) Other))) ≡ 1 → x ≡ line_feed
     go true s t p v = eqb-true x 10 p
@@ -103,7 +103,7 @@ read_other x f d = go (character_of x) refl d
   where
     go : (k : Character) → character_of x ≡ k → is_digit k ≡ false → k ≡ Other
     go (Digit n) q e = absurd (true≢false e)
-    go LineFeed q e = absurd (f (feed-written x q))
+    go LineFeed q e = absurd (f (feed_written x q))
     go Other q e = refl
 
 pub no_feed : (x : ℕ) (k : Character) → character_of x ≡ k → ends k ≡ 0 → eqb x line_feed ≡ false

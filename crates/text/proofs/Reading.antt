@@ -20,7 +20,7 @@ use Rattle.text.specs.declared.characters.Character.{Character}
 use Rattle.text.specs.declared.characters.Character.TheVariants.{Digit, LineFeed, Other}
 use Rattle.text.specs.declared.read.Checked.{Checked}
 use Rattle.text.specs.declared.read.Reading.TheVariants.{Recording, Refused}
-use Rattle.text.proofs.Digits.{first_done, digit_value, no_feed, feed-written}
+use Rattle.text.proofs.Digits.{first_done, digit_value, no_feed, feed_written}
 use Rattle.text.proofs.Buffers.{putting_end, length_mapped, Mapping, Filled, put_one, fill_begin, fill_more, fill_end}
 
 or_split : (a b : Bool) → (a || b) ≡ false → (a ≡ false) × (b ≡ false)
@@ -31,9 +31,9 @@ or_split false b e = (refl, e)
 
 -- Counting goes on from i.
 module _ (p : ℕ → Bool) (xs : List ℕ) (i : ℕ) (e : leading p xs ≡ i + leading p (drop i xs)) where
-  pub leading-turn : i < length xs → p (get_or xs i 0) ≡ true → leading p xs ≡ i + 1 + leading p (drop (i + 1) xs)
+  pub leading_turn : i < length xs → p (get_or xs i 0) ≡ true → leading p xs ≡ i + 1 + leading p (drop (i + 1) xs)
   unfolding leading
-  leading-turn h t = e ∙ rw (drop-cons xs i 0 h, add-one i, t) (omega arith)
+  leading_turn h t = e ∙ rw (drop-cons xs i 0 h, add-one i, t) (omega arith)
 
   pub leading_stop : i < length xs → p (get_or xs i 0) ≡ false → i ≡ leading p xs
   unfolding leading
@@ -278,8 +278,8 @@ module _ (text : List ℕ) (n m at : ℕ) (j : Checking text n m at) where
               omega arith
 
       -- it goes on only with a line feed after digits
-      line-feed : refusal_at (n + c) (ltb 0 c) k ≡ done → (k ≡ LineFeed) × (ltb 0 c ≡ true)
-      line-feed z = go k refl (ltb 0 c) refl z
+      line_feed_lem : refusal_at (n + c) (ltb 0 c) k ≡ done → (k ≡ LineFeed) × (ltb 0 c ≡ true)
+      line_feed_lem z = go k refl (ltb 0 c) refl z
         where
           go : (i : Character) → k ≡ i → (t : Bool) → ltb 0 c ≡ t → refusal_at (n + c) t i ≡ done → (k ≡ LineFeed) × (ltb 0 c ≡ true)
           go (Digit d) y t v w = absurd (no_digit (ap is_digit y) (digit_few (n + c) t d w))
@@ -289,7 +289,7 @@ module _ (text : List ℕ) (n m at : ℕ) (j : Checking text n m at) where
 
       pub check_turn : (f : ℕ) → f ≡ refusal_at (n + c) (ltb 0 c) k → f ≡ done → Checking text (n + c) (m + 1) (at + c + 1)
       check_turn f v z =
-          let b = line-feed (sym v ∙ z) in
+          let b = line_feed_lem (sym v ∙ z) in
           let x : character_of (get_or text (at + c) 0) ≡ LineFeed = sym q ∙ b.0 in
           let i = j.few in
           record {
@@ -342,7 +342,7 @@ line_read n (x ∷ xs) e = go (character_of x) refl (λ f. line_read (n + 1) xs 
   where
     go : (k : Character) → character_of x ≡ k → (refusal_from (n + 1) true xs ≡ done → Line (n + 1) (feed_place xs) xs) → Line n (pick (not (eqb x line_feed)) (1 + feed_place xs) 0) (x ∷ xs)
     go (Digit d) q r = rw (no_feed x (Digit d) q refl) (line_more n (feed_place xs) x xs (ap is_digit q) (r (accepted_character x (Digit d) q xs n true e).1))
-    go LineFeed q r = rw (eq-eqb x line_feed (feed-written x q)) (line_here n x xs q e)
+    go LineFeed q r = rw (eq-eqb x line_feed (feed_written x q)) (line_here n x xs q e)
     go Other q r = absurd (let l : ◌≡◌ {A = ℕ} 17 0 = (accepted_character x Other q xs n true e).0 in omega arith)
 
 -- An accepted text that has not ended begins with a digit where a line is to start.
@@ -399,14 +399,14 @@ module _ (text cb sb cb₁ sb₁ : List ℕ) (n m at : ℕ) (f : Filling text cb
     line : Line n c (drop at text)
     line = rw feed_is (line_read n (drop at text) (rw (drop-cons text at 0 h) (sym (first_refusal (get_or text at 0) (drop (suc at) text) n begins) ∙ rw (← drop-cons text at 0 h) f.accepted)))
 
-    behind-line : drop (suc c) (drop at text) ≡ drop (at + c + 1) text
-    behind-line = let z : at + suc c ≡ at + c + 1 = omega arith in drop-drop (suc c) at text ∙ ap (λ (i : ℕ). drop i text) z
+    behind_line : drop (suc c) (drop at text) ≡ drop (at + c + 1) text
+    behind_line = let z : at + suc c ≡ at + c + 1 = omega arith in drop-drop (suc c) at text ∙ ap (λ (i : ℕ). drop i text) z
 
     next_cycles : Filled (cycles_in text) cb cb₁ n (map value_of (take c (drop at text)) ++ cycles_in (drop (at + c + 1) text))
-    next_cycles = rw (← behind-line, ← line.cycles) f.cycles
+    next_cycles = rw (← behind_line, ← line.cycles) f.cycles
 
     next_start : Filled (starts_in text) sb sb₁ m ((n ∷ []) ++ starts_from (n + c) false (drop (at + c + 1) text))
-    next_start = rw (← behind-line, ← line.starts) (rw (drop-cons text at 0 h, first_starts (get_or text at 0) (drop (suc at) text) n begins, ← drop-cons text at 0 h) at f.starts)
+    next_start = rw (← behind_line, ← line.starts) (rw (drop-cons text at 0 h, first_starts (get_or text at 0) (drop (suc at) text) n begins, ← drop-cons text at 0 h) at f.starts)
 
     pub line_within : at + c < length text
     line_within = let w = line.within in let l = length-drop at text in omega arith
@@ -433,7 +433,7 @@ module _ (text cb sb cb₁ sb₁ : List ℕ) (n m at : ℕ) (f : Filling text cb
         let p = rw part_is at q in
         let w = line_within in
         let i : n₂ ≡ n + c = p.next ∙ ap (λ (t : ℕ). n + t) (length-map (take c (drop at text)) value_of ∙ length-take-le c (drop at text) (let v = line.within in omega arith)) in
-        let a : refusal_from (n + c) false (drop (at + c + 1) text) ≡ done = rw (← behind-line) line.accepted in
+        let a : refusal_from (n + c) false (drop (at + c + 1) text) ≡ done = rw (← behind_line) line.accepted in
         record {
           within = omega arith;
           most =

@@ -21,7 +21,7 @@ use Rattle.text.specs.declared.write.Written.{Written}
 use Rattle.text.specs.declared.write.Written.TheVariants.{Bytes, Refused}
 use Rattle.text.specs.declared.read.Reading.{Reading}
 use Rattle.text.specs.declared.read.Reading.TheVariants.{Recording, Refused as Reading-as-Refused}
-use Rattle.text.proofs.Digits.{first_done, and_split, digit_read, digit_written, feed-written}
+use Rattle.text.proofs.Digits.{first_done, and_split, digit_read, digit_written, feed_written}
 use Rattle.text.proofs.Writing.{places_split, places_join, line_within, places_few, length_text, starts_fit, first_zero, length-between, recording_accepted, recording-done, write_ready}
 use Rattle.text.proofs.Reading.{refusal_feed, cycles_character, starts_character, accepted_character, accepted_next, cycles_most}
 
@@ -57,12 +57,12 @@ module _ (rest : List ℕ) where
   cycles-rest [] e = cycles_character line_feed LineFeed feed rest
   cycles-rest (c ∷ cs) e = let s = fit_split c cs e in cycles_digit c s.0 (line_of cs ++ rest) ∙ ap (λ (l : List ℕ). c ∷ l) (cycles-rest cs s.1)
 
-  starts-rest : (n : ℕ) (cs : List ℕ) → cycles_fit cs ≡ true → starts_from n true (line_of cs ++ rest) ≡ starts_from (n + length cs) false rest
+  starts_rest : (n : ℕ) (cs : List ℕ) → cycles_fit cs ≡ true → starts_from n true (line_of cs ++ rest) ≡ starts_from (n + length cs) false rest
   unfolding line_of
-  starts-rest n [] e = starts_character line_feed LineFeed feed rest n true
-  starts-rest n (c ∷ cs) e =
+  starts_rest n [] e = starts_character line_feed LineFeed feed rest n true
+  starts_rest n (c ∷ cs) e =
       let s = fit_split c cs e in
-      starts_digit c s.0 (line_of cs ++ rest) n true ∙ starts-rest (n + 1) cs s.1 ∙ ap (λ (k : ℕ). starts_from k false rest) (omega arith)
+      starts_digit c s.0 (line_of cs ++ rest) n true ∙ starts_rest (n + 1) cs s.1 ∙ ap (λ (k : ℕ). starts_from k false rest) (omega arith)
 
   refusal_rest : (n : ℕ) (cs : List ℕ) → cycles_fit cs ≡ true → n + length cs ≤ most_cycles → refusal_from n true (line_of cs ++ rest) ≡ refusal_from (n + length cs) false rest
   unfolding line_of
@@ -72,11 +72,11 @@ module _ (rest : List ℕ) where
       refusal_digit c s.0 (line_of cs ++ rest) n true (omega arith) ∙ refusal_rest (n + 1) cs s.1 (omega arith) ∙ ap (λ (k : ℕ). refusal_from k false rest) (omega arith)
 
   -- A whole line has at least one cycle, which begins it.
-  starts-line : (n c : ℕ) (cs : List ℕ) → cycles_fit (c ∷ cs) ≡ true → starts_from n false (line_of (c ∷ cs) ++ rest) ≡ n ∷ starts_from (n + length (c ∷ cs)) false rest
+  starts_line : (n c : ℕ) (cs : List ℕ) → cycles_fit (c ∷ cs) ≡ true → starts_from n false (line_of (c ∷ cs) ++ rest) ≡ n ∷ starts_from (n + length (c ∷ cs)) false rest
   unfolding line_of
-  starts-line n c cs e =
+  starts_line n c cs e =
       let s = fit_split c cs e in
-      starts_digit c s.0 (line_of cs ++ rest) n false ∙ ap (λ (l : List ℕ). n ∷ l) (starts-rest (n + 1) cs s.1 ∙ ap (λ (k : ℕ). starts_from k false rest) (omega arith))
+      starts_digit c s.0 (line_of cs ++ rest) n false ∙ ap (λ (l : List ℕ). n ∷ l) (starts_rest (n + 1) cs s.1 ∙ ap (λ (k : ℕ). starts_from k false rest) (omega arith))
 
   refusal_line : (n c : ℕ) (cs : List ℕ) → cycles_fit (c ∷ cs) ≡ true → n + length (c ∷ cs) ≤ most_cycles → refusal_from n false (line_of (c ∷ cs) ++ rest) ≡ refusal_from (n + length (c ∷ cs)) false rest
   unfolding line_of
@@ -106,8 +106,8 @@ record Given (cs : List ℕ) (s : ℕ) (text ss : List ℕ) : Type 0 where
 
 module _ (cs : List ℕ) (fit : cycles_fit cs ≡ true) (most : length cs ≤ most_cycles) where
   -- a line in front of what is read already
-  line-given : (s t : ℕ) (rest ss : List ℕ) → s < t → t ≤ length cs → Given cs t rest ss → Given cs s (line_of (between s t cs) ++ rest) (s ∷ ss)
-  line-given s t rest ss h k g = go (between s t cs) refl (fit_take (t - s) (drop s cs) (fit_drop s cs fit)) (length-between s t cs k)
+  line_given : (s t : ℕ) (rest ss : List ℕ) → s < t → t ≤ length cs → Given cs t rest ss → Given cs s (line_of (between s t cs) ++ rest) (s ∷ ss)
+  line_given s t rest ss h k g = go (between s t cs) refl (fit_take (t - s) (drop s cs) (fit_drop s cs fit)) (length-between s t cs k)
     where
       go : (line : List ℕ) → between s t cs ≡ line → cycles_fit line ≡ true → length line ≡ t - s → Given cs s (line_of line ++ rest) (s ∷ ss)
       go [] e f l = absurd (omega arith)
@@ -118,17 +118,17 @@ module _ (cs : List ℕ) (fit : cycles_fit cs ≡ true) (most : length cs ≤ mo
           record {
             refusal = refusal_line rest s c line f (omega arith) ∙ rw n g.refusal;
             cycles = cycles-rest rest (c ∷ line) f ∙ ap (λ (l : List ℕ). l ++ cycles_in rest) (sym e) ∙ ap (λ (l : List ℕ). between s t cs ++ l) (g.cycles ∙ d) ∙ take-append-drop (t - s) (drop s cs);
-            starts = starts-line rest s c line f ∙ rw n (ap (λ (l : List ℕ). s ∷ l) g.starts);
+            starts = starts_line rest s c line f ∙ rw n (ap (λ (l : List ℕ). s ∷ l) g.starts);
           }
 
   lines_given : (low s : ℕ) (ss : List ℕ) → places_fit low (length cs) (s ∷ ss) ≡ true → Given cs s (lines_from cs (s ∷ ss)) (s ∷ ss)
   unfolding lines_from refusal_from cycles_in starts_from
   lines_given low s [] e =
       let w = line_within low (length cs) s [] e in
-      line-given s (length cs) [] [] w.line w.end (record { refusal = refl; cycles = sym (drop-length cs); starts = refl })
+      line_given s (length cs) [] [] w.line w.end (record { refusal = refl; cycles = sym (drop-length cs); starts = refl })
   lines_given low s (t ∷ ts) e =
       let w = line_within low (length cs) s (t ∷ ts) e in
-      line-given s t (lines_from cs (t ∷ ts)) (t ∷ ts) w.line w.end (lines_given (s + 1) t ts (places_split low (length cs) s (t ∷ ts) e).2)
+      line_given s t (lines_from cs (t ∷ ts)) (t ∷ ts) w.line w.end (lines_given (s + 1) t ts (places_split low (length cs) s (t ∷ ts) e).2)
 
   -- lines that start with the first cycle
   all_given : (ss : List ℕ) → places_fit 0 (length cs) ss ≡ true → line_end (length cs) ss ≡ 0 → Given cs 0 (lines_from cs ss) ss
@@ -210,13 +210,13 @@ module _ (x d : ℕ) (q : character_of x ≡ Digit d) (xs : List ℕ) (r : Again
 
 module _ (x : ℕ) (q : character_of x ≡ LineFeed) (xs : List ℕ) (r : Again xs) (pre : List ℕ) (s : ℕ) (h : s ≤ length pre) (e : refusal_from (length pre) false xs ≡ done) where
   -- a line feed ends the line that has begun
-  again-feed : lines_from (pre ++ cycles_in (x ∷ xs)) (s ∷ starts_from (length pre) false xs) ≡ map digit_of (drop s pre) ++ (x ∷ xs)
+  again_feed : lines_from (pre ++ cycles_in (x ∷ xs)) (s ∷ starts_from (length pre) false xs) ≡ map digit_of (drop s pre) ++ (x ∷ xs)
   unfolding lines_from line_of
-  again-feed =
+  again_feed =
       let t : line_end (length (pre ++ cycles_in xs)) (starts_from (length pre) false xs) ≡ length pre = rw (length-append pre (cycles_in xs)) (first_start (length pre) xs e) in
       let b : between s (length pre) (pre ++ cycles_in xs) ≡ drop s pre = rw (drop-append-le s pre (cycles_in xs) h) (take_at (drop s pre) (cycles_in xs) (length pre - s) (length-drop s pre)) in
       ap (λ (l : List ℕ). lines_from (pre ++ l) (s ∷ starts_from (length pre) false xs)) (cycles_character x LineFeed q xs)
-      ∙ rw (t, b, r.ended pre e, feed-written x q) (append_snoc (map digit_of (drop s pre)) line_feed xs)
+      ∙ rw (t, b, r.ended pre e, feed_written x q) (append_snoc (map digit_of (drop s pre)) line_feed xs)
 
 again : (xs : List ℕ) → Again xs
 again [] = again_none
@@ -237,7 +237,7 @@ again (x ∷ xs) = go (character_of x) refl (again xs)
           ended = λ pre e. absurd (let l : ◌≡◌ {A = ℕ} 18 0 = (accepted_character x LineFeed q xs (length pre) false e).0 in omega arith);
           begun = λ pre s h e.
               let a = rw (add-zero (length pre)) at (accepted_character x LineFeed q xs (length pre) true e) in
-              rw (starts_character x LineFeed q xs (length pre) true, add-zero (length pre)) (again-feed x q xs r pre s h a.1);
+              rw (starts_character x LineFeed q xs (length pre) true, add-zero (length pre)) (again_feed x q xs r pre s h a.1);
         }
     go Other q r =
         record {
@@ -268,9 +268,9 @@ inverse = record { readable = readable; writable = writable }
 -- The two functions ----------------------------------------------------------------------------------------------------
 
 -- The front of a buffer, once a part was put over it.
-over-front : (part before : List ℕ) → take (length part) (over part before) ≡ part
+over_front : (part before : List ℕ) → take (length part) (over part before) ≡ part
 unfolding over
-over-front part before = take_at part (drop (length part) before) (length part) refl
+over_front part before = take_at part (drop (length part) before) (length part) refl
 
 -- The number in an answer is the refusal, whichever case it is.
 number_of : {A : Type 0} (number : A → ℕ) (answer : A) (refused : ℕ → A) → number answer ≡ done → ((r : ℕ) → number (refused r) ≡ r) → (r : ℕ) → number (pick (eqb r done) answer (refused r)) ≡ r
@@ -320,7 +320,7 @@ written_read : (cs ps buffer buffer' : List ℕ) (n : ℕ) → WriteText cs ps b
 written_read cs ps buffer buffer' n w cb sb cb' sb' r h k g =
     let d : write_refusal cs ps buffer ≡ done = sym (ap (λ (a : Written). (written_numbers a).refusal) w.answer ∙ written_number cs ps buffer) in
     let l : n ≡ length (text_of cs ps) = ap (λ (a : Written). (written_numbers a).bytes) (w.answer ∙ written_answer cs ps buffer d) in
-    let t : take n buffer' ≡ text_of cs ps = rw (w.left, written_left cs ps buffer d, l) (over-front (text_of cs ps) buffer) in
+    let t : take n buffer' ≡ text_of cs ps = rw (w.left, written_left cs ps buffer d, l) (over_front (text_of cs ps) buffer) in
     let a = readable cs ps (recording-done cs ps (write_ready cs ps buffer d).accepted) in
     let e : read_refusal (text_of cs ps) cb sb ≡ done = read_done_lem (text_of cs ps) cb sb a.accepted (rw a.cycles h) (rw a.starts k) in
     let f = rw t at g in
@@ -338,8 +338,8 @@ read_written text cb sb cb' sb' n m g buffer buffer' r h w =
     let q = g.answer ∙ reading_answer text cb sb d in
     let i : n ≡ length (cycles_in text) = ap (λ (a : Reading). (reading_numbers a).cycles) q in
     let j : m ≡ length (starts_in text) = ap (λ (a : Reading). (reading_numbers a).starts) q in
-    let c : take n cb' ≡ cycles_in text = rw (g.cycles, d, i) (over-front (cycles_in text) cb) in
-    let s : take m sb' ≡ starts_in text = rw (g.starts, d, j) (over-front (starts_in text) sb) in
+    let c : take n cb' ≡ cycles_in text = rw (g.cycles, d, i) (over_front (cycles_in text) cb) in
+    let s : take m sb' ≡ starts_in text = rw (g.starts, d, j) (over_front (starts_in text) sb) in
     let a = writable text (read_accepted text cb sb d) in
     let f = rw (c, s) at w in
     let e : write_refusal (cycles_in text) (starts_in text) buffer ≡ done = write_done_lem (cycles_in text) (starts_in text) buffer a.accepted (rw a.again h) in
@@ -446,14 +446,14 @@ text_enough cs ps e =
     let f = places_few 0 (length cs) (line_starts cs ps) (starts_fit cs ps ∙ a.places) (omega arith) in
     omega arith
 
-starts-enough : (text : List ℕ) → text_refusal text ≡ done → length (starts_in text) ≤ most_cycles
-starts-enough text e =
+starts_enough : (text : List ℕ) → text_refusal text ≡ done → length (starts_in text) ≤ most_cycles
+starts_enough text e =
     let m = cycles_most 0 false text e (omega arith) in
     let f = places_few 0 (0 + length (cycles_in text)) (starts_in text) (starts_rise text 0 0 false (omega arith)) (omega arith) in
     omega arith
 
 pub enough : Enough
-enough = record { text = text_enough; cycles = λ text e. (let m = cycles_most 0 false text e (omega arith) in omega arith); starts = starts-enough }
+enough = record { text = text_enough; cycles = λ text e. (let m = cycles_most 0 false text e (omega arith) in omega arith); starts = starts_enough }
 
 pub examples : Examples
 unfolding p4_recording p4_text recording_refusal cycles_fit places_fit text_of line_starts lines_from line_of digit_of character_of refusal_from cycles_in starts_from

@@ -49,8 +49,8 @@ module _ (n : ℕ) (ps : List ℕ) (low k : ℕ) (e : places_fit 0 n ps ≡ plac
   unfolding places_fit
   places_at h = e ∙ rw (drop-cons ps k 0 h, add-one k)
 
-  pub places-turn : k < length ps → (leb low (get_or ps k 0) && ltb (get_or ps k 0) n) ≡ true → places_fit 0 n ps ≡ places_fit (get_or ps k 0 + 1) n (drop (k + 1) ps)
-  places-turn h t = places_at h ∙ rw t
+  pub places_turn : k < length ps → (leb low (get_or ps k 0) && ltb (get_or ps k 0) n) ≡ true → places_fit 0 n ps ≡ places_fit (get_or ps k 0 + 1) n (drop (k + 1) ps)
+  places_turn h t = places_at h ∙ rw t
 
   pub places_false : k < length ps → (leb low (get_or ps k 0) && ltb (get_or ps k 0) n) ≡ false → false ≡ places_fit 0 n ps
   places_false h t = sym (places_at h ∙ rw t)
@@ -90,9 +90,9 @@ line_at low n (p ∷ ps) (suc k) e h = line_at (p + 1) n ps k (places_split low 
 
 -- Lines ----------------------------------------------------------------------------------------------------------------
 
-length-line : (cs : List ℕ) → length (line_of cs) ≡ length cs + 1
+length_line : (cs : List ℕ) → length (line_of cs) ≡ length cs + 1
 unfolding line_of
-length-line cs = length_mapped digit_of cs (line_feed ∷ [])
+length_line cs = length_mapped digit_of cs (line_feed ∷ [])
 
 pub length-between : (s t : ℕ) (cs : List ℕ) → t ≤ length cs → length (between s t cs) ≡ t - s
 length-between s t cs h = length-take-le (t - s) (drop s cs) (rw (length-drop s cs) (omega arith))
@@ -124,7 +124,7 @@ length_lines : (cs : List ℕ) (low s : ℕ) (ss : List ℕ) → places_fit low 
 unfolding lines_from
 length_lines cs low s [] e =
     let w = line_within low (length cs) s [] e in
-    let l = length-line (between s (length cs) cs) in
+    let l = length_line (between s (length cs) cs) in
     let k = length-between s (length cs) cs (omega arith) in
     let a = length-append (line_of (between s (length cs) cs)) [] in
     let b = w.start in
@@ -132,7 +132,7 @@ length_lines cs low s [] e =
 length_lines cs low s (t ∷ ts) e =
     let w = line_within low (length cs) s (t ∷ ts) e in
     let r = length_lines cs (s + 1) t ts (places_split low (length cs) s (t ∷ ts) e).2 in
-    let l = length-line (between s t cs) in
+    let l = length_line (between s t cs) in
     let k = length-between s t cs w.end in
     let a = length-append (line_of (between s t cs)) (lines_from cs (t ∷ ts)) in
     let b = w.line in
@@ -157,10 +157,10 @@ length_text cs ps e = go (line_starts cs ps) (starts_fit cs ps ∙ e) (first_zer
     go (s ∷ ss) f z = let l = length_lines cs 0 s ss f in omega arith
 
 -- A line is written digit by digit, then its line feed.
-pub line-done : (before : List ℕ) (at : ℕ) (line now : List ℕ) (i : ℕ) → Mapping digit_of (line_feed ∷ []) before at line now i → length line ≤ i → Put before at (line_of line) (at + i + 1) (set now (at + i) line_feed)
+pub line_done : (before : List ℕ) (at : ℕ) (line now : List ℕ) (i : ℕ) → Mapping digit_of (line_feed ∷ []) before at line now i → length line ≤ i → Put before at (line_of line) (at + i + 1) (set now (at + i) line_feed)
 unfolding line_of
-line-done before at line now i m h =
-    let k = length-line line in
+line_done before at line now i m h =
+    let k = length_line line in
     let w = m.within in
     let f : get_or (line_of line) i 0 ≡ line_feed = get_or_at (map digit_of line) line_feed [] 0 i (length-map line digit_of ∙ omega arith) in
     let p = putting_end before at (line_of line) (set now (at + i) line_feed) (i + 1) (putting_turn before at (line_of line) now i m.part line_feed (omega arith) (sym f)) (omega arith) in
@@ -202,9 +202,9 @@ module _ (cs ps : List ℕ) where
   unfolding recording_refusal
   refused_cycle h e = rw (le-ltb most_cycles (length cs) h, ← e)
 
-  pub refused-places : length cs ≤ most_cycles → true ≡ cycles_fit cs → false ≡ places_fit 0 (length cs) ps → 15 ≡ recording_refusal cs ps
+  pub refused_places : length cs ≤ most_cycles → true ≡ cycles_fit cs → false ≡ places_fit 0 (length cs) ps → 15 ≡ recording_refusal cs ps
   unfolding recording_refusal
-  refused-places h e f = rw (le-ltb most_cycles (length cs) h, ← e, ← f)
+  refused_places h e f = rw (le-ltb most_cycles (length cs) h, ← e, ← f)
 
   pub refused_none : length cs ≤ most_cycles → true ≡ cycles_fit cs → true ≡ places_fit 0 (length cs) ps → 0 ≡ recording_refusal cs ps
   unfolding recording_refusal
@@ -305,7 +305,7 @@ module _ (cs ps buffer : List ℕ) (y : Ready cs ps buffer) (end : ℕ) (e : end
         within = n;
         room = λ h.
             let t = length_parts in
-            let k : length (lead_of cs end) ≡ length (between 0 end cs) + 1 = rw (lt-ltb 0 end h) (length-line (between 0 end cs)) in
+            let k : length (lead_of cs end) ≡ length (between 0 end cs) + 1 = rw (lt-ltb 0 end h) (length_line (between 0 end cs)) in
             let l = length-between 0 end cs n in
             omega arith;
       }
@@ -348,7 +348,7 @@ module _ (cs ps buffer : List ℕ) (start : ℕ) (now : List ℕ) (at k : ℕ) (
       let r = f.room in
       let s = f.same in
       let a = length-append (line_of (between (get_or ps k 0) (line_end (length cs) (drop (k + 1) ps)) cs)) (lines_from cs (drop (k + 1) ps)) in
-      let n = length-line (between (get_or ps k 0) (line_end (length cs) (drop (k + 1) ps)) cs) in
+      let n = length_line (between (get_or ps k 0) (line_end (length cs) (drop (k + 1) ps)) cs) in
       rw e (omega arith)
 
   pub lines_turn : k < length ps → (to at₂ : ℕ) (now₂ : List ℕ) → to ≡ line_end (length cs) (drop (k + 1) ps) → Put now at (line_of (between (get_or ps k 0) to cs)) at₂ now₂ → Lined cs ps buffer start now₂ at₂ (k + 1)

@@ -17,8 +17,8 @@ use Rattle.serial.proofs.Drawing.Recorded.{Fresh, recorded, load_bytes_injective
 use Rattle.serial.specs.Demand3.{in_edition, Enabling, LastSentence, Recorded}
 
 -- With SSE clear and no frame in progress a sound engine is stopped.
-sound-stopped : (d : DeviceModel) → sound_device d ≡ true → enabled_of d.registers.control ≡ false → d.engine.frame ≡ false → Stopped d.engine
-sound-stopped d h k z = stopped_elim d.engine (stopped d h (active_idle d.registers.control d.engine z ∙ k))
+sound_stopped : (d : DeviceModel) → sound_device d ≡ true → enabled_of d.registers.control ≡ false → d.engine.frame ≡ false → Stopped d.engine
+sound_stopped d h k z = stopped_elim d.engine (stopped d h (active_idle d.registers.control d.engine z ∙ k))
 
 -- A sound, enabled master whose engine is stopped.
 pub fresh_sound : (d : DeviceModel) → sound_device d ≡ true → enabled_of d.registers.control ≡ true → Masters d → Stopped d.engine → Fresh (settings_of d.registers.control) d
@@ -46,12 +46,12 @@ fresh_enabling s d o v k =
     let d' = write_device d o v in
     subst (λ (u : Settings). Fresh u d') k.set
     (fresh_sound d' (sound_write d o v k.sound) (ap (λ (u : Settings). u.enabled) k.set ∙ k.enabled) (ap (λ (u : Settings). u.slave) k.set ∙ k.master)
-    (subst Stopped (sym (engine_enabling d o v k.clear)) (sound-stopped d k.sound k.clear k.idle)))
+    (subst Stopped (sym (engine_enabling d o v k.clear)) (sound_stopped d k.sound k.clear k.idle)))
 
 -- Demand 3, its last sentence.
 pub enabling_injective : LastSentence
 enabling_injective s m n d d' o v o' v' k k' ps qs l l' e =
     load_bytes_injective s m n (write_device d o v) (write_device d' o' v') (fresh_enabling (in_edition m s) d o v k) (fresh_enabling (in_edition n s) d' o' v' k') ps qs l l' e
 
-pub enabling-recorded : Recorded
-enabling-recorded s d o v e ps k l = recorded s (write_device d o v) (fresh_enabling s d o v e) ps k l
+pub enabling_recorded : Recorded
+enabling_recorded s d o v e ps k l = recorded s (write_device d o v) (fresh_enabling s d o v e) ps k l

@@ -8,7 +8,7 @@ use native.Mathlib.Nat.{add-mul, le_refl}
 use lib.Dec.{ltb, eqb}
 use lib.ListN.{length, length-append, replicate, length-replicate}
 use Rattle.registers.specs.Choose.{pick}
-use Rattle.registers.proofs.Picks.{pick-both}
+use Rattle.registers.proofs.Picks.{pick_both}
 use Rattle.registers.specs.Flags.{busy_of}
 use Rattle.registers.specs.Time.{slots, cycles_of}
 use Rattle.registers.specs.declared.time.Cycles.{Cycles}
@@ -59,9 +59,9 @@ module _ (s : Settings) where
   end_free : (e : Engine) → e.frame ≡ false → (master_end s e).frame ≡ false
   unfolding master_end ticked
   end_free e f =
-      pick-both (λ (x : Engine). x.frame ≡ false) (resting e) _ _ (λ _. f)
-      (λ _. pick-both (λ (x : Engine). x.frame ≡ false) (ltb (e.elapsed.0 + 1) s.divisor.0) _ _ (λ _. f)
-      (λ _. pick-both (λ (x : Engine). x.frame ≡ false) (ltb e.slot.0 (last_slot s).0) _ _ (λ _. f) (λ _. refl)))
+      pick_both (λ (x : Engine). x.frame ≡ false) (resting e) _ _ (λ _. f)
+      (λ _. pick_both (λ (x : Engine). x.frame ≡ false) (ltb (e.elapsed.0 + 1) s.divisor.0) _ _ (λ _. f)
+      (λ _. pick_both (λ (x : Engine). x.frame ≡ false) (ltb e.slot.0 (last_slot s).0) _ _ (λ _. f) (λ _. refl)))
 
   -- without a frame and a word nothing happens
   acted_free : (e : Engine) → e.frame ≡ false → acted s (solo [] e) ≡ solo [] (without_received e)
@@ -110,19 +110,19 @@ module _ (s : Settings) where
           absurd (true≢false (sym b ∙ ap (λ (n : ℕ). busy (run n x)) (sym q) ∙ ap busy (iterate_add (cycle s) i (k - i) x) ∙ run_free (k - i) (run i x) e))
 
   -- the slot in which the frame is over
-  acted-over : (n c : ℕ) (d : Bool) (w : ℕ) → event_of s (slots n) ≡ Release → (acted s (on n c d w [])).engine.frame ≡ false
+  acted_over : (n c : ℕ) (d : Bool) (w : ℕ) → event_of s (slots n) ≡ Release → (acted s (on n c d w [])).engine.frame ≡ false
   unfolding acted moves master_step acting
-  acted-over n c d w e = ap (λ (v : Event). (act s (sending n (shifted c d w 0)) false 0 (data_bit s (master_txd s (sending n (shifted c d w 0))) false) v).engine.frame) e
+  acted_over n c d w e = ap (λ (v : Event). (act s (sending n (shifted c d w 0)) false 0 (data_bit s (master_txd s (sending n (shifted c d w 0))) false) v).engine.frame) e
 
-  acted-words : (n c : ℕ) (d : Bool) (w : ℕ) → event_of s (slots n) ≡ Release → (acted s (on n c d w [])).tx ≡ []
+  acted_words : (n c : ℕ) (d : Bool) (w : ℕ) → event_of s (slots n) ≡ Release → (acted s (on n c d w [])).tx ≡ []
   unfolding acted moves master_step acting
-  acted-words n c d w e = ap (λ (v : Event). pick (act s (sending n (shifted c d w 0)) false 0 (data_bit s (master_txd s (sending n (shifted c d w 0))) false) v).takes (rest []) []) e
+  acted_words n c d w e = ap (λ (v : Event). pick (act s (sending n (shifted c d w 0)) false 0 (data_bit s (master_txd s (sending n (shifted c d w 0))) false) v).takes (rest []) []) e
 
   over_free : (n c : ℕ) (d : Bool) (w : ℕ) → event_of s (slots n) ≡ Release → busy (cycle s (on n c d w [])) ≡ false
   unfolding cycle
   over_free n c d w e =
-      ap (λ (ws : List ℕ). (master_end s (acted s (on n c d w [])).engine).frame || not (eqb (length ws) 0)) (acted-words n c d w e)
-      ∙ ap (λ (t : Bool). t || false) (end_free (acted s (on n c d w [])).engine (acted-over n c d w e))
+      ap (λ (ws : List ℕ). (master_end s (acted s (on n c d w [])).engine).frame || not (eqb (length ws) 0)) (acted_words n c d w e)
+      ∙ ap (λ (t : Bool). t || false) (end_free (acted s (on n c d w [])).engine (acted_over n c d w e))
 
   -- a slot whose lines are driven is in a frame
   driven_frame : (e : Engine) → (master_lines s e).released ≡ false → e.frame ≡ true
@@ -226,9 +226,9 @@ frees_on s Ti phase r l h x w ws e = last_frees (fixed Ti phase s) _ _ h (frames
 frees_on s Microwire phase r l h x w ws e = over_frees (fixed Microwire phase s) _ _ h (frames_m_until s phase x w ws) _ (omega (arith, e))
 frees_on s Reserved phase r l h x w ws e = absurd (r refl)
 
-after-solo : (s : Settings) (d : DeviceModel) → Runs s d → (ps : List Pins) → solo_of (after d ps) ≡ run s (length ps) (solo_of d)
-after-solo s d k [] = refl
-after-solo s d k (p ∷ ps) = after-solo s (cycle_of d p) (runs_cycle s d p k) ps ∙ ap (run s (length ps)) (solo_cycle s d p k)
+after_solo : (s : Settings) (d : DeviceModel) → Runs s d → (ps : List Pins) → solo_of (after d ps) ≡ run s (length ps) (solo_of d)
+after_solo s d k [] = refl
+after_solo s d k (p ∷ ps) = after_solo s (cycle_of d p) (runs_cycle s d p k) ps ∙ ap (run s (length ps)) (solo_cycle s d p k)
 
 -- The cycles to the first BSY 0 of a load of n words, by a master's settings.
 abbrev pub busy_cycles : Settings → ℕ → Cycles
@@ -257,7 +257,7 @@ module _ (s : Settings) (d : DeviceModel) (k : Fresh s d) where
   busy_is : (ps : List Pins) (ws : List ℕ) → d.registers.tx ≡ ws → busy_after d ps ≡ busy (run s (length ps) (solo ws (rest_at (shift_without_received d.engine.shift))))
   unfolding busy_of busy_device
   busy_is ps ws e =
-      ap busy (after-solo s d (record { set = k.set; enabled = k.enabled; master = k.master }) ps ∙ ap (run s (length ps)) (begins ∙ ap (λ (v : List ℕ). solo v (rest_at (shift_without_received d.engine.shift))) e))
+      ap busy (after_solo s d (record { set = k.set; enabled = k.enabled; master = k.master }) ps ∙ ap (run s (length ps)) (begins ∙ ap (λ (v : List ℕ). solo v (rest_at (shift_without_received d.engine.shift))) e))
 
   frees : (w : ℕ) (ws : List ℕ) → Frees s (solo (w ∷ ws) (rest_at (shift_without_received d.engine.shift))) (busy_cycles s (suc (length ws))).0
   frees w ws =

@@ -46,18 +46,18 @@ append_right (x ∷ xs) (y ∷ ys) b b' l e = append_right xs ys b b' (omega ari
 abbrev pub SameBits : ℕ → ℕ → ℕ → ℕ → Type 0
 SameBits t n w v = (i : ℕ) → i < n → bit_of t w i ≡ bit_of t v i
 
-top-same : (t w v c : ℕ) → c ≤ t → t ≤ 16 → SameBits t c w v → top t w c ≡ top t v c
-top-same t w v zero l m f = top_zero t w ∙ sym (top_zero t v)
-top-same t w v (suc c) l m f =
+top_same : (t w v c : ℕ) → c ≤ t → t ≤ 16 → SameBits t c w v → top t w c ≡ top t v c
+top_same t w v zero l m f = top_zero t w ∙ sym (top_zero t v)
+top_same t w v (suc c) l m f =
     ap (top t w) (sym (add-one c))
     ∙ sym (top_next t w c (omega arith) m)
-    ∙ ap₂ shifted_in (top-same t w v c (omega arith) m (λ i k. f i (omega arith))) (f c (omega arith))
+    ∙ ap₂ shifted_in (top_same t w v c (omega arith) m (λ i k. f i (omega arith))) (f c (omega arith))
     ∙ top_next t v c (omega arith) m
     ∙ ap (top t v) (add-one c)
 
 -- a word cut to t bits is known by these
 pub cut-same : (t w v : ℕ) → t ≤ 16 → SameBits t t w v → cut t w ≡ cut t v
-cut-same t w v m f = sym (top_full t w) ∙ top-same t w v t (omega arith) m f ∙ top_full t v
+cut-same t w v m f = sym (top_full t w) ∙ top_same t w v t (omega arith) m f ∙ top_full t v
 
 -- Idle lines are released.
 pub idle_released : (f : Format) (p : Bool) → (idle_on f p).released ≡ true
@@ -107,8 +107,8 @@ joined_injective f g s t w v m l e z =
 
 -- Motorola, SPH 0 ------------------------------------------------------------------------------------------------------
 
-low-shows : (s : Settings) (clk : Bool) → Shows (low s clk)
-low-shows s clk d = refl
+low_shows : (s : Settings) (clk : Bool) → Shows (low s clk)
+low_shows s clk d = refl
 
 pub frame0-length : (s : Settings) (w : ℕ) → length (frame0 s w) ≡ 2 * s.bits + 4
 frame0-length s w =
@@ -119,7 +119,7 @@ frame0-length s w =
 frame0_injective : (s : Settings) (w v : ℕ) → s.bits ≤ 16 → frame0 s w ≡ frame0 s v → cut s.bits w ≡ cut s.bits v
 frame0_injective s w v m e =
     let t = s.bits in
-    word_injective (low s false) (low s true) (low-shows s false) t w v m
+    word_injective (low s false) (low s true) (low_shows s false) t w v m
     (append_left (bit_lines (low s false) (low s true) t w 0 t) (bit_lines (low s false) (low s true) t v 0 t) _ _
     (length_bits (low s false) (low s true) t w 0 t ∙ sym (length_bits (low s false) (low s true) t v 0 t)) (cons_tail e))
 
@@ -154,7 +154,7 @@ module _ (s : Settings) (m : s.bits ≤ 16) (k : 2 ≤ s.bits) where
   parts1 : (w v : ℕ) (a b : List Lines) → word1 w ++ a ≡ word1 v ++ b → (cut s.bits w ≡ cut s.bits v) × (a ≡ b)
   parts1 w v a b e =
       let l : length (word1 w) ≡ length (word1 v) = word1_length w ∙ sym (word1_length v) in (
-        word_injective (low s true) (low s false) (low-shows s true) s.bits w v m (append_left (word1 w) (word1 v) a b l e),
+        word_injective (low s true) (low s false) (low_shows s true) s.bits w v m (append_left (word1 w) (word1 v) a b l e),
         append_right (word1 w) (word1 v) a b l e,
       )
 
@@ -196,7 +196,7 @@ module _ (s : Settings) (m : s.bits ≤ 16) (k : 2 ≤ s.bits) where
   parts_t w v a a' b b' p q e =
       let l : length (bits_t w) ≡ length (bits_t v) = bits_t_length w ∙ sym (bits_t_length v) in
       let r = append_right (bits_t w) (bits_t v) (a ∷ b) (a' ∷ b') l e in (
-        joined_injective (low s true) (low s false) (low-shows s true) s.bits w v m (omega arith) (append_left (bits_t w) (bits_t v) (a ∷ b) (a' ∷ b') l e)
+        joined_injective (low s true) (low s false) (low_shows s true) s.bits w v m (omega arith) (append_left (bits_t w) (bits_t v) (a ∷ b) (a' ∷ b') l e)
             (sym p ∙ ap (λ (x : Lines). x.txd) (cons_head r) ∙ q),
         cons_tail r,
       )
@@ -247,7 +247,7 @@ module _ (s : Settings) where
       let q = quiets (s.bits + 1) in
       let l : length (bits_m w) ≡ length (bits_m v) = bits_m_length w ∙ sym (bits_m_length v) in
       ap₂ ◌∷◌
-      (word_injective (low s false) (low s true) (low-shows s false) 8 w v (omega arith) (append_left (bits_m w) (bits_m v) (q ++ chain_m s ws) (q ++ chain_m s vs) l e))
+      (word_injective (low s false) (low s true) (low_shows s false) 8 w v (omega arith) (append_left (bits_m w) (bits_m v) (q ++ chain_m s ws) (q ++ chain_m s vs) l e))
       (chain_m_injective ws vs
       (append_right q q (chain_m s ws) (chain_m s vs) refl (append_right (bits_m w) (bits_m v) (q ++ chain_m s ws) (q ++ chain_m s vs) l e)))
 

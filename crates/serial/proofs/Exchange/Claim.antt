@@ -34,14 +34,14 @@ use Rattle.serial.proofs.Drawing.Free.{busy_cycles, busy_bound}
 use Rattle.serial.proofs.Exchange.Core.{Receiver, Pair, plain, core_cycle}
 use Rattle.serial.proofs.Exchange.Settle.{rested}
 use Rattle.serial.proofs.Exchange.Moves.{hidden}
-use Rattle.serial.proofs.Exchange.Turn.{given, turns, turn_pins, turn_lines, idle-plain, wire-plain}
-use Rattle.serial.proofs.Exchange.Wiring.{holding, starts, Wiring, slave_hidden, stays_idle-given}
+use Rattle.serial.proofs.Exchange.Turn.{given, turns, turn_pins, turn_lines, idle_plain, wire_plain}
+use Rattle.serial.proofs.Exchange.Wiring.{holding, starts, Wiring, slave_hidden, stays_idle_given}
 use Rattle.serial.proofs.Exchange.Formats.{wiring_of}
 use Rattle.serial.proofs.Exchange.Busy.{pair_busy, pair_free}
 use Rattle.serial.proofs.Exchange.Finish.{answers, load_cycles, has_received}
 use Rattle.serial.proofs.Exchange.Project.{core_of, rx_of, Paired, commutes}
 use Rattle.serial.proofs.Exchange.Lead.{Lead, step_off, lead_steps, lead-write₁, lead-write₂}
-use Rattle.serial.proofs.Exchange.Enable.{settings-on, control_on}
+use Rattle.serial.proofs.Exchange.Enable.{settings_on, control_on}
 use Rattle.serial.specs.Editions.{switched_on}
 use Rattle.serial.specs.Demand3.{Step, plays, cycles_in, control_of, Stays, Agree, Start, completed, received, load, held, busy_for, Received, Exchanged, slave_enabled, master_enabled, Demand3}
 use Rattle.serial.specs.Demand3.Which.{master, slave}
@@ -77,8 +77,8 @@ projected {f = f} {phase = phase} {p = p} {b = b} {h = h} (suc n) g l j P =
 -- The state at the master's enabling -----------------------------------------------------------------------------------
 
 -- as many words as the master sends, zeros where the slave has none
-answers-due : (ws vs : List ℕ) → answers ws vs ≡ take (length ws) (vs ++ replicate (length ws) 0)
-answers-due ws vs = go ws (length ws) vs (omega arith)
+answers_due : (ws vs : List ℕ) → answers ws vs ≡ take (length ws) (vs ++ replicate (length ws) 0)
+answers_due ws vs = go ws (length ws) vs (omega arith)
   where
     go : (ws : List ℕ) (k : ℕ) (vs : List ℕ) → length ws ≤ k → answers ws vs ≡ take (length ws) (vs ++ replicate k 0)
     go [] k vs l = refl
@@ -103,11 +103,11 @@ module _ (f : Format) (phase p : Bool) (b h k : ℕ) (o : Bool) (c₁ c₂ : Con
   core_start =
       let e₁ = L.first.engine (omega arith) in
       let e₂ = L.second.engine (omega arith) in
-      let l₁ = ap (turn_lines (turns f p)) (L.first.lines (omega arith)) ∙ idle-plain f p in
+      let l₁ = ap (turn_lines (turns f p)) (L.first.lines (omega arith)) ∙ idle_plain f p in
       let l₂ = ap (turn_lines false) (L.second.lines (omega arith)) in
-      let x = ap (turn_pins (turns f p)) (L.newest (omega arith)) ∙ wire-plain f p in
-      let y = ap (turn_pins (turns f p)) (L.middle (omega arith)) ∙ wire-plain f p in
-      let z = ap (turn_pins (turns f p)) (L.oldest (omega arith)) ∙ wire-plain f p in
+      let x = ap (turn_pins (turns f p)) (L.newest (omega arith)) ∙ wire_plain f p in
+      let y = ap (turn_pins (turns f p)) (L.middle (omega arith)) ∙ wire_plain f p in
+      let z = ap (turn_pins (turns f p)) (L.oldest (omega arith)) ∙ wire_plain f p in
       λ t. record {
         m = record { tx = load master g; rx = rx_of g.first.registers []; engine = e₁ t; lines = l₁ t };
         s = record { tx = load slave g; rx = rx_of g.second.registers []; engine = e₂ t; lines = l₂ t };
@@ -142,7 +142,7 @@ module _ (f : Format) (phase p : Bool) (b h k : ℕ) (o : Bool) (c₁ c₂ : Con
   master_gets : (j : ℕ) → Received (given f phase p b h false o P.edition) (until + j) master g
   master_gets j =
       let r = ap (λ (c : Pair). c.m.rx) (run_of (until + j)) ∙ (has_received P.wiring slow (load master g) q₁ (load slave g) q₂ (until + j) (in_time j) held-small₁ held-small₂).0 in
-      let d = ap (map (cut (capture_width (plain f phase b h false)))) (answers-due (load master g) (load slave g)) in
+      let d = ap (map (cut (capture_width (plain f phase b h false)))) (answers_due (load master g) (load slave g)) in
       record {
         words = ap (λ (x : Receiver). x.log) r ∙ d;
         queue = ap (λ (x : Receiver). x.held) r ∙ ap (λ (x : List ℕ). take 8 (held master g ++ x)) d;
@@ -200,7 +200,7 @@ unfolding device_step step_of
 slave_stays_idle {f = f} {b = b} W phase' p p' ed k a a' d x s e u v =
     ap₂ (λ (s : Settings) (e : Engine). step_of s e d.pins x (waiting_of d.registers) (next_word d.registers)) s e
     ∙ ap₂ (λ (u v : Pins). slave_step (given f phase' p' b k true false ed) cleared u v (next_word d.registers)) u v
-    ∙ stays_idle-given W phase' p p' ed k (next_word d.registers) a a'
+    ∙ stays_idle_given W phase' p p' ed k (next_word d.registers) a a'
 
 -- the control registers after a device's enabling
 control_after : (d : DeviceModel) (c : Control) → d.registers.control ≡ c → d.engine.frame ≡ false → c.cr1 ≤ 15 → enabled_of c ≡ false → permitted_of c.cr0 ≡ true → (c.cpsr ≡ 0 → ⊥)
@@ -241,11 +241,11 @@ module _ (p : PairModel) (st : Start p) where
 
   -- the settings of both once they are on
   on₁ : settings_of (switched_on (control_of master p)) ≡ given s₁.format s₁.phase s₁.polarity s₁.bits s₁.divisor.0 false s₁.sod s₁.edition2
-  on₁ = settings-on (control_of master p) small₁ off₁
+  on₁ = settings_on (control_of master p) small₁ off₁
       ∙ (λ t. settings_by s₁.format s₁.phase s₁.polarity s₁.bits s₁.divisor (st.is_master t) s₁.sod (st.straight_master t) true s₁.edition2)
 
   on₂ : settings_of (switched_on (control_of slave p)) ≡ given s₁.format s₂.phase s₂.polarity s₁.bits s₂.divisor.0 true false s₂.edition2
-  on₂ = settings-on (control_of slave p) small₂ off₂
+  on₂ = settings_on (control_of slave p) small₂ off₂
       ∙ (λ t. settings_by (st.format t) s₂.phase s₂.polarity (st.size t) s₂.divisor (st.is_slave t) (st.output t) (st.straight_slave t) true s₂.edition2)
 
   abbrev i : Lines

@@ -55,10 +55,10 @@ module _ (c : Control) (small : c.cr1 ≤ 15) (off : enabled_of c ≡ false) whe
   now_on : (c.cr1 + 2) / 2 % 2 ≡ 1
   now_on = let b = bit_off in omega arith
 
-  pub settings-on : settings_of (switched_on c)
+  pub settings_on : settings_of (switched_on c)
       ≡ settings_by (settings_of c).format (settings_of c).phase (settings_of c).polarity (settings_of c).bits (settings_of c).divisor (settings_of c).slave (settings_of c).sod (settings_of c).loopback true (settings_of c).edition2
   unfolding settings_of divisor_of enabled_of
-  settings-on = rw (same-loopback, same_role, same_output, now_on)
+  settings_on = rw (same-loopback, same_role, same_output, now_on)
 
 pub control_on : (m : Model) (active : Bool) → active ≡ false → m.control.cr1 ≤ 15 → enabled_of m.control ≡ false → permitted_of m.control.cr0 ≡ true → (m.control.cpsr ≡ 0 → ⊥)
     → (write_model m active 0x04 (m.control.cr1 + 2)).control ≡ switched_on m.control

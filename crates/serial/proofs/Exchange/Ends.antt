@@ -46,9 +46,9 @@ begin_acts phase b h w ws q d =
     ap (λ (t : Bool). moved (pick t r (no_word cleared)) x (master_lines (sm phase b h) (pick t r (no_word cleared)).engine)) (waits_cons w ws)
     ∙ ap (moved r x) (lines_first phase b h (loaded w) (levels_first phase b))
 
-pub stays_idle-motorola : (phase : Bool) (b h : ℕ) → StaysIdle Motorola phase b h
+pub stays_idle_motorola : (phase : Bool) (b h : ℕ) → StaysIdle Motorola phase b h
 unfolding slave_step motorola_slave wire
-stays_idle-motorola phase b h n = refl
+stays_idle_motorola phase b h n = refl
 
 module _ (phase : Bool) (b h : ℕ) (k : Queues) (w v c n : ℕ) where
   -- a selected slave sees FSS HIGH
@@ -58,11 +58,11 @@ module _ (phase : Bool) (b h : ℕ) (k : Queues) (w v c n : ℕ) where
 
   pub release_slot : n ≡ 2 * b + 2 → Slot (sm phase b h) (ss phase b h) (filled_at b w v k c false n) (released_at Motorola k n).m (released_at Motorola k (n + 1))
   unfolding event_of last_slot
-  release_slot e = release.release_slot Motorola phase b h (stays_idle-motorola phase b h) k n _ _ _ (motorola_release phase b n e) (omega arith) goes_idle
+  release_slot e = release.release_slot Motorola phase b h (stays_idle_motorola phase b h) k n _ _ _ (motorola_release phase b n e) (omega arith) goes_idle
 
 pub pause_slot : (phase : Bool) (b h : ℕ) (k : Queues) (n : ℕ) → n ≡ 2 * b + 3 → Slot (sm phase b h) (ss phase b h) (released_at Motorola k n) (released_at Motorola k n).m (idle k)
 unfolding last_slot
-pause_slot phase b h k n e = release.pause_slot Motorola phase b h (stays_idle-motorola phase b h) k n (omega arith) e
+pause_slot phase b h k n e = release.pause_slot Motorola phase b h (stays_idle_motorola phase b h) k n (omega arith) e
 
 -- the last word is through
 abbrev pub final_at : ℕ → ℕ → Receiver → List ℕ → Receiver → Two
@@ -80,5 +80,5 @@ ever phase b h l w q₀ vs r₀ =
     let r = push (cut b w) r₀ in
     let k = holding [] q (rest vs) r in
     let x' = shifted (c + 1) (bit_of b v c) v (cut b w) in
-    release.ever Motorola phase b h (stays_idle-motorola phase b h) (lawful_motorola phase b h) l q (rest vs) r n _ _ _ (motorola_release phase b n refl) (omega arith) (omega arith) (goes_idle phase b h k w v c n)
+    release.ever Motorola phase b h (stays_idle_motorola phase b h) (lawful_motorola phase b h) l q (rest vs) r n _ _ _ (motorola_release phase b n refl) (omega arith) (omega arith) (goes_idle phase b h k w v c n)
     (calm phase b h (rest vs) r false x' false (bit_of b w c) (bit_of b w c) (ended phase b h x')) refl

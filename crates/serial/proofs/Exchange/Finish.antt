@@ -90,10 +90,10 @@ module _ {f : Format} {phase : Bool} {b h : ℕ} (W : Wiring f phase b h) (l : 6
   load-run : (w : ℕ) (ws : List ℕ) (q : Receiver) (vs : List ℕ) (r : Receiver) → iterate (load_cycles (w ∷ ws)) cycle (begins (w ∷ ws) q vs r) ≡ rested (load_end w ws q vs r)
   load-run w ws q vs r = trace_run (slots_trace sm ss (λ x. Unit {0}) (λ x. Unit {0}) W.lawful l (idle_settled f phase b h W.stays_idle (holding (w ∷ ws) q vs r)) (trace_map meets (W.exchange.run w ws q vs r)))
 
-  load-ever : (w : ℕ) (ws : List ℕ) (q : Receiver) (vs : List ℕ) (r : Receiver) (n : ℕ)
+  load_ever : (w : ℕ) (ws : List ℕ) (q : Receiver) (vs : List ℕ) (r : Receiver) (n : ℕ)
       → Holds (push_all (map (cut (capture_width sm)) (answers (w ∷ ws) vs)) q) (push_all (map (cut (width_of sm)) (w ∷ ws)) r) (iterate n cycle (rested (load_end w ws q vs r)))
-  load-ever w [] q vs r n = W.exchange.ever w q vs r n
-  load-ever w (u ∷ ws) q vs r n = load-ever u ws _ (rest vs) _ n
+  load_ever w [] q vs r n = W.exchange.ever w q vs r n
+  load_ever w (u ∷ ws) q vs r n = load_ever u ws _ (rest vs) _ n
 
   pub has_received : (ws : List ℕ) (q : Receiver) (vs : List ℕ) (r : Receiver) (n : ℕ) → load_cycles ws ≤ n → length q.held ≤ 8 → length r.held ≤ 8
       → Holds (kept (map (cut (capture_width sm)) (answers ws vs)) q) (kept (map (cut (width_of sm)) ws) r) (iterate n cycle (begins ws q vs r))
@@ -105,5 +105,5 @@ module _ {f : Format} {phase : Bool} {b h : ℕ} (W : Wiring f phase b h) (l : 6
       let total : n ≡ load_cycles (w ∷ ws) + j = omega arith in
       let e : iterate n cycle (begins (w ∷ ws) q vs r) ≡ iterate j cycle (rested (load_end w ws q vs r)) =
       ap (λ (x : ℕ). iterate x cycle (begins (w ∷ ws) q vs r)) total ∙ iterate_add cycle (load_cycles (w ∷ ws)) j (begins (w ∷ ws) q vs r) ∙ ap (iterate j cycle) (load-run w ws q vs r) in
-      let h = load-ever w ws q vs r j in
+      let h = load_ever w ws q vs r j in
       (ap (λ (x : Pair). x.m.rx) e ∙ h.0 ∙ pushed_kept (map (cut (capture_width sm)) (answers (w ∷ ws) vs)) q p, ap (λ (x : Pair). x.s.rx) e ∙ h.1 ∙ pushed_kept (map (cut (width_of sm)) (w ∷ ws)) r p')

@@ -13,7 +13,7 @@ use Rattle.serial.specs.Pair.{wire}
 use Rattle.serial.proofs.Exchange.Quiet.{lawful_motorola, lawful_ti, lawful_microwire}
 use Rattle.serial.proofs.Exchange.Turn.{turned_motorola, turned_ti, turned_microwire}
 use Rattle.serial.proofs.Exchange.Wiring.{Wiring}
-use Rattle.serial.proofs.Exchange.Ends.{stays_idle-motorola}
+use Rattle.serial.proofs.Exchange.Ends.{stays_idle_motorola}
 use Rattle.serial.proofs.Exchange.Phase0 as phase0
 use Rattle.serial.proofs.Exchange.Phase1 as phase1
 use Rattle.serial.proofs.Exchange.Ti as ti-words
@@ -25,7 +25,7 @@ module _ (b h : ℕ) (l : 4 ≤ b) (m : b ≤ 16) (k : 6 ≤ h) where
   motorola false =
       record {
         lawful = lawful_motorola false b h;
-        stays_idle = stays_idle-motorola false b h;
+        stays_idle = stays_idle_motorola false b h;
         turned = turned_motorola false b h;
         slots = λ n. n * (2 * b + 4) + (2 * b + 2);
         exchange = phase0.exchange b h (omega arith) m k;
@@ -34,7 +34,7 @@ module _ (b h : ℕ) (l : 4 ≤ b) (m : b ≤ 16) (k : 6 ≤ h) where
   motorola true =
       record {
         lawful = lawful_motorola true b h;
-        stays_idle = stays_idle-motorola true b h;
+        stays_idle = stays_idle_motorola true b h;
         turned = turned_motorola true b h;
         slots = λ n. 2 * b * suc n + 2;
         exchange = phase1.exchange b h (omega arith) m k;
@@ -58,7 +58,7 @@ module _ (b h : ℕ) (l : 4 ≤ b) (m : b ≤ 16) (k : 6 ≤ h) where
   microwire phase =
       record {
         lawful = lawful_microwire phase b h;
-        stays_idle = microwire-words.stays_idle-microwire phase b h;
+        stays_idle = microwire-words.stays_idle_microwire phase b h;
         turned = turned_microwire phase b h;
         slots = λ n. suc n * (2 * b + 18) + 1;
         exchange = microwire-words.exchange phase b h (omega arith) m k;

@@ -6,7 +6,7 @@ use mathlib.Core.List.{List, [], ◌∷◌}
 use native.Mathlib.Omega.{arith}
 use lib.Dec.{eqb}
 use Rattle.registers.specs.Bits.{bit_at}
-use Rattle.registers.proofs.Picks.{pick-both}
+use Rattle.registers.proofs.Picks.{pick_both}
 use Rattle.registers.specs.Model.{Model}
 use Rattle.registers.specs.Offsets.{register_of}
 use Rattle.registers.specs.Settings.{settings_of, enabled_of}
@@ -56,7 +56,7 @@ write_ror m Outside v h = h
 
 ror_write : (m : Model) (active : Bool) (o v : ℕ) → m.ror ≡ false → (write_model m active o v).ror ≡ false
 unfolding write_model
-ror_write m active o v h = pick-both (λ (z : Model). z.ror ≡ false) (eqb (write_refusal m active (register_of o) v) 0) _ _ (λ _. write_ror m (register_of o) v h) (λ _. h)
+ror_write m active o v h = pick_both (λ (z : Model). z.ror ≡ false) (eqb (write_refusal m active (register_of o) v) 0) _ _ (λ _. write_ror m (register_of o) v h) (λ _. h)
 
 -- A device that is off, or on and idle ---------------------------------------------------------------------------------
 

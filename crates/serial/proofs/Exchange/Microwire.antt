@@ -8,7 +8,7 @@ use lib.Dec.{leb}
 use lib.ListN.{length}
 use borrow.Author.Tests.{eq-eqb, lt-ltb, le-leb, lt-leb}
 use Rattle.registers.specs.Choose.{pick}
-use Rattle.registers.proofs.Picks.{pick-both}
+use Rattle.registers.proofs.Picks.{pick_both}
 use Rattle.registers.specs.Time.{slots}
 use Rattle.registers.specs.Transfer.{rest}
 use Rattle.registers.specs.declared.settings.Format.TheVariants.{Microwire}
@@ -102,7 +102,7 @@ module _ (phase : Bool) (b h : ℕ) where
   -- the end of a cycle leaves the engine
   ended : (e : Engine) → slave_end ss e ≡ e
   unfolding slave_end
-  ended e = pick-both (λ (x : Engine). x ≡ e) (word_over ss e) _ _ (λ _. refl) (λ _. refl)
+  ended e = pick_both (λ (x : Engine). x ≡ e) (word_over ss e) _ _ (λ _. refl) (λ _. refl)
 
   -- a selected slave that sees no edge
   calm : (tx : List ℕ) (rx : Receiver) (i : ℕ) (f : Bool) (x : Shift) (l : Lines) (c d r : Bool) → slave_lines ss (chosen i f x) ≡ l
@@ -388,9 +388,9 @@ module _ (phase : Bool) (b h : ℕ) where
       (slave_by ss _ _ (done_at w v k j i).s (no_word ready) ready hidden (slave_ends i (shifted 0 (bit_of b v j) v 0) false true _ e) (ended _) refl)
       (calm vs r 0 false (shifted 0 false 0 0) hidden false false true refl) refl
 
-  pub stays_idle-microwire : StaysIdle Microwire phase b h
+  pub stays_idle_microwire : StaysIdle Microwire phase b h
   unfolding slave_step microwire_slave wire
-  stays_idle-microwire n = refl
+  stays_idle_microwire n = refl
 
   goes_idle : (k : Queues) → GoesIdle Microwire phase b h k (waiting false) (record { tx = k.stx; rx = k.srx; engine = ready; lines = hidden })
   unfolding wire slave_lines slave_end slave_step microwire_slave slave_side
@@ -443,7 +443,7 @@ module _ (phase : Bool) (b h : ℕ) where
         let q' = push (cut b (front vs)) q in
         let r' = push (cut 8 w) r in
         let n = 2 * b + 19 in
-        release.ever Microwire phase b h stays_idle-microwire (lawful_microwire phase b h) six q' (rest vs) r' n _ _ _ (microwire_release b n refl) (omega arith) (omega arith) (goes_idle (holding [] q' (rest vs) r'))
+        release.ever Microwire phase b h stays_idle_microwire (lawful_microwire phase b h) six q' (rest vs) r' n _ _ _ (microwire_release b n refl) (omega arith) (omega arith) (goes_idle (holding [] q' (rest vs) r'))
         (calm (rest vs) r' 0 false (shifted 0 false 0 0) hidden false false true refl) refl
 
     pub exchange : 6 ≤ h → Exchange (plain Microwire phase b h false) (plain Microwire phase b h true) hidden (λ n. suc n * (2 * b + 18) + 1)

@@ -71,9 +71,9 @@ pub record Paired (f : Format) (phase p : Bool) (b h k : ℕ) (o : Bool) (g : Pa
   pub slave : settings_of g.second.registers.control ≡ given f its_phase its_polarity b k true false its_edition
 
 -- the word of a device that waits, once SSE is 1
-waits-on : (m : Model) → enabled_of m.control ≡ true → waiting_of m ≡ waits m.tx
+waits_on : (m : Model) → enabled_of m.control ≡ true → waiting_of m ≡ waits m.tx
 unfolding waiting_of
-waits-on m h = ap (λ (t : Bool). t && not (eqb (length m.tx) 0)) h
+waits_on m h = ap (λ (t : Bool). t && not (eqb (length m.tx) 0)) h
 
 module _ {f : Format} {phase p : Bool} {b h k : ℕ} {o : Bool} (g : PairModel) (P : Paired f phase p b h k o g) where
   first_on : enabled_of g.first.registers.control ≡ true
@@ -86,7 +86,7 @@ module _ {f : Format} {phase p : Bool} {b h k : ℕ} {o : Bool} (g : PairModel) 
   first_step x =
       let e = g.first.engine in
       let m = g.first.registers in
-      ap₂ (λ (s : Settings) (w : Bool). step_of s e g.first.pins x w (get_or m.tx 0 0)) P.master (waits-on m first_on)
+      ap₂ (λ (s : Settings) (w : Bool). step_of s e g.first.pins x w (get_or m.tx 0 0)) P.master (waits_on m first_on)
       ∙ step_plain f phase p b h o P.edition e (waits m.tx) (get_or m.tx 0 0) x.rxd
 
   -- the slave's step, with the pins turned back

@@ -5,7 +5,7 @@ use mathlib.Core.Bool.{Bool, true, false, ◌&&◌, and-false}
 use lib.Dec.{leb}
 use lib.ListN.{get_or}
 use Rattle.registers.specs.Choose.{pick}
-use Rattle.registers.proofs.Picks.{pick-both}
+use Rattle.registers.proofs.Picks.{pick_both}
 use Rattle.registers.specs.declared.settings.Format.{Format}
 use Rattle.registers.specs.declared.settings.Format.TheVariants.{Motorola, Ti, Microwire, Reserved}
 use Rattle.registers.specs.declared.settings.Settings.{Settings}
@@ -22,7 +22,7 @@ use Rattle.frames.specs.declared.lines.Pins.{Pins}
 ended_on_twice : (f : Format) (w : ℕ) (e : Engine) → pick ((ended_on f e).frame && leb w (ended_on f e).shift.captured) (ended_on f (ended_on f e)) (ended_on f e) ≡ ended_on f e
 ended_on_twice Motorola w e = refl
 ended_on_twice Ti w e = refl
-ended_on_twice Microwire w e = pick-both (λ (x : Engine). x ≡ e) (e.frame && leb w e.shift.captured) _ _ (λ _. refl) (λ _. refl)
+ended_on_twice Microwire w e = pick_both (λ (x : Engine). x ≡ e) (e.frame && leb w e.shift.captured) _ _ (λ _. refl) (λ _. refl)
 ended_on_twice Reserved w e = refl
 
 -- what has ended stays ended
@@ -47,10 +47,10 @@ unfolding slave_side
 side_after s p q x r h = ap (after s x) h
 
 -- a slave that stays as it is whenever it sees p twice comes to rest
-quiet-rests : (s : Settings) (p : Pins) → ((e : Engine) (n : ℕ) → slave_step s e p p n ≡ no_word e)
+quiet_rests : (s : Settings) (p : Pins) → ((e : Engine) (n : ℕ) → slave_step s e p p n ≡ no_word e)
     → (q r : Pins) (x : Side) → slave_side s p p (slave_side s p p (slave_side s q r x)) ≡ slave_side s p p (slave_side s q r x)
 unfolding slave_side
-quiet-rests s p h q r x =
+quiet_rests s p h q r x =
     let y = slave_side s q r x in
     let fixed : slave_end s y.engine ≡ y.engine = ended_twice s (slave_step s x.engine q r (get_or x.tx 0 0)).engine in
     let once : slave_side s p p y ≡ with_engine (calm s y) y.engine = side_after s p p y (no_word y.engine) (h y.engine _) ∙ ap (with_engine (calm s y)) fixed in
@@ -63,10 +63,10 @@ clock_quiet s e n d = rw (and-false e.frame)
 -- Motorola with FSS LOW
 pub quiet-low : (phase : Bool) (b h : ℕ) (c d d' : Bool) (e : Engine) (n : ℕ) → slave_step (plain Motorola phase b h true) e (record { clk = c; fss = false; rxd = d }) (record { clk = c; fss = false; rxd = d' }) n ≡ no_word e
 unfolding slave_step motorola_slave motorola_select motorola_edges capture_edge drive_edge
-quiet-low true b h true d d' e n = pick-both (λ (r : Step). r ≡ no_word e) e.selected _ _ (λ _. ap (after_taking false) (clock_quiet (plain Motorola true b h true) e n _)) (λ _. refl)
-quiet-low true b h false d d' e n = pick-both (λ (r : Step). r ≡ no_word e) e.selected _ _ (λ _. ap (after_taking false) (clock_quiet (plain Motorola true b h true) e n _)) (λ _. refl)
-quiet-low false b h true d d' e n = pick-both (λ (r : Step). r ≡ no_word e) e.selected _ _ (λ _. ap (after_taking false) (clock_quiet (plain Motorola false b h true) e n _)) (λ _. refl)
-quiet-low false b h false d d' e n = pick-both (λ (r : Step). r ≡ no_word e) e.selected _ _ (λ _. ap (after_taking false) (clock_quiet (plain Motorola false b h true) e n _)) (λ _. refl)
+quiet-low true b h true d d' e n = pick_both (λ (r : Step). r ≡ no_word e) e.selected _ _ (λ _. ap (after_taking false) (clock_quiet (plain Motorola true b h true) e n _)) (λ _. refl)
+quiet-low true b h false d d' e n = pick_both (λ (r : Step). r ≡ no_word e) e.selected _ _ (λ _. ap (after_taking false) (clock_quiet (plain Motorola true b h true) e n _)) (λ _. refl)
+quiet-low false b h true d d' e n = pick_both (λ (r : Step). r ≡ no_word e) e.selected _ _ (λ _. ap (after_taking false) (clock_quiet (plain Motorola false b h true) e n _)) (λ _. refl)
+quiet-low false b h false d d' e n = pick_both (λ (r : Step). r ≡ no_word e) e.selected _ _ (λ _. ap (after_taking false) (clock_quiet (plain Motorola false b h true) e n _)) (λ _. refl)
 
 -- Microwire with FSS LOW
 pub quiet-microwire : (phase : Bool) (b h : ℕ) (c d d' : Bool) (e : Engine) (n : ℕ) → slave_step (plain Microwire phase b h true) e (record { clk = c; fss = false; rxd = d }) (record { clk = c; fss = false; rxd = d' }) n ≡ no_word e
@@ -84,7 +84,7 @@ selected_rests s high low p q r x = go p.fss
         slave_side s p' p' (slave_side s p' p' (slave_side s q r x)) ≡ slave_side s p' p' (slave_side s q r x))
     go true = high p.clk p.rxd (slave_side s (record { clk = p.clk; fss = true; rxd = p.rxd }) (record { clk = p.clk; fss = true; rxd = p.rxd }) (slave_side s q r x))
         ∙ ap (λ (y : Side). calm s (with_engine y cleared)) (high p.clk p.rxd (slave_side s q r x)) ∙ sym (high p.clk p.rxd (slave_side s q r x))
-    go false = quiet-rests s (record { clk = p.clk; fss = false; rxd = p.rxd }) (low p.clk p.rxd) q r x
+    go false = quiet_rests s (record { clk = p.clk; fss = false; rxd = p.rxd }) (low p.clk p.rxd) q r x
 
 pub lawful_motorola : (phase : Bool) (b h : ℕ) → Lawful (plain Motorola phase b h true)
 unfolding slave_side slave_step motorola_slave
@@ -101,4 +101,4 @@ quiet_ti phase b h true f d f' d' e n = refl
 quiet_ti phase b h false f d f' d' e n = refl
 
 pub lawful_ti : (phase : Bool) (b h : ℕ) → Lawful (plain Ti phase b h true)
-lawful_ti phase b h p = quiet-rests (plain Ti phase b h true) p (quiet_ti phase b h p.clk p.fss p.rxd p.fss p.rxd)
+lawful_ti phase b h p = quiet_rests (plain Ti phase b h true) p (quiet_ti phase b h p.clk p.fss p.rxd p.fss p.rxd)

@@ -360,17 +360,17 @@ module _ (phase : Bool) (b h : ℕ) where
     quiet_pins f d = record { clk = false; fss = f; rxd = d }
 
     -- the lines go idle, and no edge is seen any more
-    done-ever : (i : ℕ) (q : Receiver) (vs : List ℕ) (r : Receiver) (d e f₁ d₁ f₂ d₂ f₃ d₃ : Bool)
+    done_ever : (i : ℕ) (q : Receiver) (vs : List ℕ) (r : Receiver) (d e f₁ d₁ f₂ d₂ f₃ d₃ : Bool)
         → Holds q r (iterate i (core_cycle sm ss) (mk (record { tx = []; rx = q; engine = cleared; lines = lined false false d e }) (idle (holding [] q vs r)).s (quiet_pins f₁ d₁) (quiet_pins f₂ d₂) (quiet_pins f₃ d₃)))
     unfolding core_cycle master_side acted master_step master_end acting resting master_lines master_txd slave_lines slave_end slave_step ti_slave slave_side wire
-    done-ever zero q vs r d e f₁ d₁ f₂ d₂ f₃ d₃ = (refl, refl)
-    done-ever (suc i) q vs r d e f₁ d₁ f₂ d₂ f₃ d₃ = done-ever i q vs r false true false (d && not e) f₁ d₁ f₂ d₂
+    done_ever zero q vs r d e f₁ d₁ f₂ d₂ f₃ d₃ = (refl, refl)
+    done_ever (suc i) q vs r d e f₁ d₁ f₂ d₂ f₃ d₃ = done_ever i q vs r false true false (d && not e) f₁ d₁ f₂ d₂
 
     final_ever : (w : ℕ) (q : Receiver) (vs : List ℕ) (r : Receiver) (i : ℕ) → Holds (push (cut b (front vs)) q) (push (cut b w) r) (iterate i (core_cycle sm ss) (rested (final_at w q vs r)))
     unfolding wire
     final_ever w q vs r i =
         let d = bit_of b w (b - 2 + 1) in
-        done-ever i (push (cut b (front vs)) q) (rest vs) (push (cut b w) r) d false false (d && true) false (d && true) false (d && true)
+        done_ever i (push (cut b (front vs)) q) (rest vs) (push (cut b w) r) d false false (d && true) false (d && true) false (d && true)
 
     pub exchange : Exchange (plain Ti phase b h false) (plain Ti phase b h true) (lined false false false true) (λ n. 2 * b * suc n + 2)
     unfolding width_of

@@ -58,25 +58,25 @@ turn_pins_twice p x = ap (λ (c : Bool). record { clk = c; fss = x.fss; rxd = x.
 
 -- The master --------------------------------------------------------------------------------------------------------------
 
-act-plain : (f : Format) (phase p : Bool) (b h : ℕ) (o ed : Bool) (e : Engine) (w : Bool) (n : ℕ) (d : Bool) (v : Event)
+act_plain : (f : Format) (phase p : Bool) (b h : ℕ) (o ed : Bool) (e : Engine) (w : Bool) (n : ℕ) (d : Bool) (v : Event)
     → act (given f phase p b h false o ed) e w n d v ≡ act (plain f phase b h false) e w n d v
 unfolding width_of
-act-plain f phase p b h o ed e w n d Begin = refl
-act-plain f phase p b h o ed e w n d BeginDrive = refl
-act-plain f phase p b h o ed e w n d (Drive i) = refl
-act-plain f phase p b h o ed e w n d First = refl
-act-plain f phase p b h o ed e w n d Capture = refl
-act-plain f phase p b h o ed e w n d (Chain i) = refl
-act-plain f phase p b h o ed e w n d (JoinDrive i) = refl
-act-plain f phase p b h o ed e w n d JoinCapture = refl
-act-plain f phase p b h o ed e w n d Quiet = refl
-act-plain f phase p b h o ed e w n d Release = refl
-act-plain f phase p b h o ed e w n d Pause = refl
+act_plain f phase p b h o ed e w n d Begin = refl
+act_plain f phase p b h o ed e w n d BeginDrive = refl
+act_plain f phase p b h o ed e w n d (Drive i) = refl
+act_plain f phase p b h o ed e w n d First = refl
+act_plain f phase p b h o ed e w n d Capture = refl
+act_plain f phase p b h o ed e w n d (Chain i) = refl
+act_plain f phase p b h o ed e w n d (JoinDrive i) = refl
+act_plain f phase p b h o ed e w n d JoinCapture = refl
+act_plain f phase p b h o ed e w n d Quiet = refl
+act_plain f phase p b h o ed e w n d Release = refl
+act_plain f phase p b h o ed e w n d Pause = refl
 
 pub step_plain : (f : Format) (phase p : Bool) (b h : ℕ) (o ed : Bool) (e : Engine) (w : Bool) (n : ℕ) (d : Bool)
     → master_step (given f phase p b h false o ed) e w n d ≡ master_step (plain f phase b h false) e w n d
 unfolding master_step data_bit event_of
-step_plain f phase p b h o ed e w n d = ap (λ (r : Step). pick (acting e w) r (no_word e)) (act-plain f phase p b h o ed e w n d (event_of (plain f phase b h false) e.slot))
+step_plain f phase p b h o ed e w n d = ap (λ (r : Step). pick (acting e w) r (no_word e)) (act_plain f phase p b h o ed e w n d (event_of (plain f phase b h false) e.slot))
 
 pub end_plain : (f : Format) (phase p : Bool) (b h : ℕ) (o ed : Bool) (e : Engine) → master_end (given f phase p b h false o ed) e ≡ master_end (plain f phase b h false) e
 unfolding master_end ticked last_slot
@@ -105,12 +105,12 @@ lines_plain f phase p b h o ed e = go e.frame (levels_of (plain f phase b h fals
     go false v d = idle_turned f p
 
 -- the idle lines, turned back
-pub idle-plain : (f : Format) (p : Bool) → turn_lines (turns f p) (idle_on f p) ≡ idle_on f false
-idle-plain f p = ap (turn_lines (turns f p)) (idle_turned f p) ∙ turn_twice (turns f p) (idle_on f false)
+pub idle_plain : (f : Format) (p : Bool) → turn_lines (turns f p) (idle_on f p) ≡ idle_on f false
+idle_plain f p = ap (turn_lines (turns f p)) (idle_turned f p) ∙ turn_twice (turns f p) (idle_on f false)
 
-pub wire-plain : (f : Format) (p : Bool) → turn_pins (turns f p) (wire (idle_on f p)) ≡ wire (idle_on f false)
+pub wire_plain : (f : Format) (p : Bool) → turn_pins (turns f p) (wire (idle_on f p)) ≡ wire (idle_on f false)
 unfolding wire
-wire-plain f p = ap wire (idle-plain f p)
+wire_plain f p = ap wire (idle_plain f p)
 
 -- The slave ---------------------------------------------------------------------------------------------------------------
 

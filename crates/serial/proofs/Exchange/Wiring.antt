@@ -48,16 +48,16 @@ starts i k =
 
 -- A pair at rest -----------------------------------------------------------------------------------------------------
 
-shows-cleared : (f : Format) → shows_on f cleared ≡ false
-shows-cleared Motorola = refl
-shows-cleared Ti = refl
-shows-cleared Microwire = refl
-shows-cleared Reserved = refl
+shows_cleared : (f : Format) → shows_on f cleared ≡ false
+shows_cleared Motorola = refl
+shows_cleared Ti = refl
+shows_cleared Microwire = refl
+shows_cleared Reserved = refl
 
 -- an idle slave shows nothing
 pub slave_hidden : (s : Settings) → slave_lines s cleared ≡ hidden
 unfolding slave_lines
-slave_hidden s = ap (λ (t : Bool). record { clk = false; fss = true; txd = t && false; released = not (t && not s.sod) }) (shows-cleared s.format)
+slave_hidden s = ap (λ (t : Bool). record { clk = false; fss = true; txd = t && false; released = not (t && not s.sod) }) (shows_cleared s.format)
 
 -- an idle slave that sees the master's idle lines stays idle
 abbrev pub StaysIdle : Format → Bool → ℕ → ℕ → Type 0
@@ -109,9 +109,9 @@ pub record Wiring (f : Format) (phase : Bool) (b h : ℕ) : Type 0 where
   pub in_time : (n : ℕ) → slots n * h ≤ (busy_for f phase b (divisor h) (suc n)).0
 
 -- An idle slave stays idle under the idle lines of any SPO.
-pub stays_idle-given : {f : Format} {phase : Bool} {b h : ℕ} → Wiring f phase b h → (phase' p p' ed : Bool) (k n : ℕ) → Agree f phase' phase → Agree f p' p
+pub stays_idle_given : {f : Format} {phase : Bool} {b h : ℕ} → Wiring f phase b h → (phase' p p' ed : Bool) (k n : ℕ) → Agree f phase' phase → Agree f p' p
     → slave_step (given f phase' p' b k true false ed) cleared (wire (idle_on f p)) (wire (idle_on f p)) n ≡ no_word cleared
 unfolding wire
-stays_idle-given {f} {phase} {b} W phase' p p' ed k n u v =
+stays_idle_given {f} {phase} {b} W phase' p p' ed k n u v =
     let o = wire (idle_on f false) in
     ap (λ (x : Lines). slave_step (given f phase' p' b k true false ed) cleared (wire x) (wire x) n) (idle_turned f p) ∙ W.turned phase' p p' ed k u v cleared o o n ∙ W.stays_idle n

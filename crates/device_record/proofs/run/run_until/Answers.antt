@@ -1,11 +1,11 @@
 use mathlib.Core.Path.{refl, sym, ap, ◌∙◌}
 use native.Mathlib.Omega.{arith}
 use Rattle.serial.specs.Cycle.{device_of, cycle_of, lost_of}
-use Rattle.device_record.proofs.Runs.{run-refused, run_begin, run-turn, run-held, run-ended}
+use Rattle.device_record.proofs.Runs.{run_refused, run_begin, run_turn, run-held, run_ended}
 use Rattle.device_record.proofs.run.run_until.Goals as goal
 
 pub returns-then-input-output : goal.returns-then-input-output
-returns-then-input-output c = run-refused _ _ _ _ _ c.none_lost-lost.ensures c.if-input-output.true
+returns-then-input-output c = run_refused _ _ _ _ _ c.none_lost-lost.ensures c.if-input-output.true
 
 pub loop-i-init : goal.loop-i-init
 loop-i-init c = run_begin _ _ _ _ _ c.none_lost-lost.ensures c.if-input-output.false
@@ -20,7 +20,7 @@ loop-i-preserved c =
     let g = c.well_formed in
     let pins = c.pins_of-pins.ensures in
     let r = c.cycle_of-now.ensures in
-    run-turn _ _ _ _ _ _ _ _ c.loop-i.invariant _ _ c.cycle_of-now.result.lost _ h (omega arith) (sym c.stops_on-done.ensures ∙ c.if-done.false) (r.device ∙ ap (cycle_of _) pins) c.byte_of.ensures (r.lost ∙ ap (lost_of _) pins) c.noted-lost.ensures
+    run_turn _ _ _ _ _ _ _ _ c.loop-i.invariant _ _ c.cycle_of-now.result.lost _ h (omega arith) (sym c.stops_on-done.ensures ∙ c.if-done.false) (r.device ∙ ap (cycle_of _) pins) c.byte_of.ensures (r.lost ∙ ap (lost_of _) pins) c.noted-lost.ensures
 
 pub returns : goal.returns
-returns c = rw c.not_run-now.ensures at (run-ended _ _ _ _ _ _ _ _ c.loop-i.invariant _ refl c.loop-i-test.false)
+returns c = rw c.not_run-now.ensures at (run_ended _ _ _ _ _ _ _ _ c.loop-i.invariant _ refl c.loop-i-test.false)
