@@ -2,8 +2,7 @@ use Rattle.frames.proofs.Words.{next_small}
 use Rattle.frames.specs.Master.{ticked}
 use native.Mathlib.Omega.{arith}
 use borrow.Author.Rules.{rules}
-use borrow.Author.Tests.{le-ltb}
-use borrow.Author.Tests.{lt-ltb}
+use borrow.Author.Tests.{le-ltb, lt-ltb}
 use Rattle.frames.proofs.master.ticked.Goals as goal
 
 pub returns-then-within : goal.returns-then-within
