@@ -1,5 +1,6 @@
 -- The engine's state, and the steps of its shift registers.
-use Rattle.std.specs.Prelude.{ℕ, ◌+◌, Bool, true, false, ◌&&◌, ◌||◌, ltb, eqb}
+use Rattle.std.specs.Prelude.{ℕ, ◌+◌, Bool, true, false, ◌&&◌, ◌||◌, List, [], ◌∷◌, Option, Some, None, ltb, eqb}
+use Rattle.std.specs.Bool.{then_some}
 use Rattle.registers.specs.Choose.{pick}
 use Rattle.registers.specs.Time.{cycles, slots}
 use Rattle.registers.specs.declared.settings.Settings.{Settings}
@@ -82,13 +83,18 @@ completes width x = eqb (x.captured + 1) width
 
 -- A step gives the engine, whether it took the next word to send, and the word that it completed, if any.
 
+-- The words of an answer that is a word or none.
+abbrev pub words_of : Option ℕ → List ℕ
+words_of None = []
+words_of (Some w) = w ∷ []
+
 -- No word is taken, and none is completed.
 abbrev pub no_word : Engine → Step
-no_word e = record { engine = e; takes = false; complete = false; word = 0 }
+no_word e = record { engine = e; takes = false; completed = None }
 
 -- A frame is in progress now; the next word to send is taken if it may be.
 abbrev pub begun_if : Bool → Engine → Shift → Step
-begun_if may e x = record { engine = with_frame e true x; takes = may; complete = false; word = 0 }
+begun_if may e x = record { engine = with_frame e true x; takes = may; completed = None }
 
 -- A frame is in progress now; the next word to send is taken.
 abbrev pub begun : Engine → Shift → Step
@@ -100,6 +106,5 @@ capture_step width bit e =
     record {
       engine = with_shift e (captured_of width bit e.shift);
       takes = false;
-      complete = completes width e.shift;
-      word = pick (completes width e.shift) (cut width (shifted_in e.shift.receiving bit)) 0;
+      completed = then_some (completes width e.shift) (cut width (shifted_in e.shift.receiving bit));
     }

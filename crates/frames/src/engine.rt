@@ -38,9 +38,8 @@ pub struct Step {
     pub engine: Engine,
     // the next word to send, if there is one, leaves the queue
     pub takes: bool,
-    // whether a word was completed; the word, otherwise 0
-    pub complete: bool,
-    pub word: u16,
+    // the word that was completed, if there is one
+    pub completed: Option<u16>,
 }
 
 // Whether the engine is active: SSE is 1, or in edition 2 a frame is in progress. The engine's step, refusal 5 and soundness
@@ -190,8 +189,7 @@ pub fn no_word(e: Engine) -> Step
     Step {
         engine: e,
         takes: false,
-        complete: false,
-        word: 0,
+        completed: None,
     }
 }
 
@@ -203,8 +201,7 @@ pub fn begun_if(may: bool, e: Engine, shift: Shift) -> Step
     Step {
         engine: next,
         takes: may,
-        complete: false,
-        word: 0,
+        completed: None,
     }
 }
 
@@ -220,22 +217,10 @@ pub fn capture_step(width: u8, bit: bool, e: Engine) -> Step
     ensures { result ≡ capture_step width bit e }
 {
     let shift = e.shift;
-    let done = completes(width, shift);
     let word = crate::bits::cut(width, crate::bits::shifted_in(shift.receiving, bit));
-    let after = captured_of(width, bit, shift);
-    let next = with_shift(e, after);
-    if done {
-        return Step {
-            engine: next,
-            takes: false,
-            complete: true,
-            word,
-        };
-    }
     Step {
-        engine: next,
+        engine: with_shift(e, captured_of(width, bit, shift)),
         takes: false,
-        complete: false,
-        word: 0,
+        completed: completes(width, shift).then_some(word),
     }
 }

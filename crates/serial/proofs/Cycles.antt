@@ -5,6 +5,7 @@ use mathlib.Core.Bool.{Bool, true, false, not, ◌&&◌, ◌||◌, or-false}
 use mathlib.Core.List.{List, ◌∷◌}
 use lib.Dec.{ltb, eqb, eqb-suc-zero}
 use lib.ListN.{length}
+use Rattle.std.specs.Prelude.{Option, Some, None, is_some}
 use Rattle.registers.specs.Choose.{pick}
 use Rattle.registers.proofs.Picks.{pick_no, pick_both}
 use Rattle.registers.specs.Model.{Model}
@@ -21,19 +22,24 @@ use Rattle.frames.specs.declared.engine.Step.{Step}
 use Rattle.frames.specs.declared.lines.Pins.{Pins}
 
 -- what sending and receiving a word keep, a step keeps
-pub step_keeps : (P : Model → Type 0) (m : Model) (r : Step) → ((x : Model) → P x → P (take_word x)) → ((x : Model) → P x → P (receive_word x r.word)) → P m → P (step_model m r)
+pub step_keeps : (P : Model → Type 0) (m : Model) (r : Step) → ((x : Model) → P x → P (take_word x)) → ((w : ℕ) → r.completed ≡ Some w → (x : Model) → P x → P (receive_word x w)) → P m → P (step_model m r)
 unfolding take_if receive_if
-step_keeps P m r f g h =
-    let t : P (take_if m r.takes) = pick_both P r.takes _ _ (λ _. f m h) (λ _. h) in
-    pick_both P r.complete _ _ (λ _. g (take_if m r.takes) t) (λ _. t)
+step_keeps P m r f g h = go r.completed refl
+  where
+    taken : P (take_if m r.takes)
+    taken = pick_both P r.takes _ _ (λ _. f m h) (λ _. h)
+
+    go : (o : Option ℕ) → r.completed ≡ o → P (receive_if (take_if m r.takes) o)
+    go None e = taken
+    go (Some w) e = g w e _ taken
 
 pub control_cycle : (d : DeviceModel) (pins : Pins) → (cycle_of d pins).registers.control ≡ d.registers.control
 unfolding cycle_of end_cycle take_word receive_word
-control_cycle d pins = step_keeps (λ (x : Model). x.control ≡ d.registers.control) d.registers (device_step d pins) (λ x h. h) (λ x h. h) refl
+control_cycle d pins = step_keeps (λ (x : Model). x.control ≡ d.registers.control) d.registers (device_step d pins) (λ x h. h) (λ w e x h. h) refl
 
 pub masks_cycle : (d : DeviceModel) (pins : Pins) → (cycle_of d pins).registers.masks ≡ d.registers.masks
 unfolding cycle_of end_cycle take_word receive_word
-masks_cycle d pins = step_keeps (λ (x : Model). x.masks ≡ d.registers.masks) d.registers (device_step d pins) (λ x h. h) (λ x h. h) refl
+masks_cycle d pins = step_keeps (λ (x : Model). x.masks ≡ d.registers.masks) d.registers (device_step d pins) (λ x h. h) (λ w e x h. h) refl
 
 -- a word waits to be sent
 abbrev pub waits : List ℕ → Bool
@@ -42,29 +48,34 @@ waits ws = not (eqb (length ws) 0)
 pub waits_cons : (w : ℕ) (ws : List ℕ) → waits (w ∷ ws) ≡ true
 waits_cons w ws = ap not (eqb-suc-zero (length ws))
 
+-- what a word makes, if there is one, otherwise x
+abbrev pub on_word : {A : Type 0} → Option ℕ → (ℕ → A) → A → A
+on_word None f x = x
+on_word (Some w) f x = f w
+
 -- the register file after a step, part by part
-pub step_file : (m : Model) (t c : Bool) (w : ℕ) → receive_if (take_if m t) c w
+pub step_file : (m : Model) (t : Bool) (o : Option ℕ) → receive_if (take_if m t) o
     ≡ record {
       control = m.control;
       masks = m.masks;
-      timeout = record { rt = pick c false m.timeout.rt; count = m.timeout.count };
-      ror = pick c (m.ror || not (ltb (length m.rx) 8)) m.ror;
+      timeout = record { rt = pick (is_some o) false m.timeout.rt; count = m.timeout.count };
+      ror = pick (is_some o) (m.ror || not (ltb (length m.rx) 8)) m.ror;
       tx = pick t (rest m.tx) m.tx;
-      rx = pick c (added m.rx w) m.rx;
+      rx = on_word o (λ (w : ℕ). added m.rx w) m.rx;
     }
 unfolding receive_if take_if receive_word take_word
-step_file m true true w = refl
-step_file m true false w = refl
-step_file m false true w = refl
-step_file m false false w = refl
+step_file m true (Some w) = refl
+step_file m true None = refl
+step_file m false (Some w) = refl
+step_file m false None = refl
 
-pub step_tx : (m : Model) (t c : Bool) (w : ℕ) (f : Bool) → (end_cycle (receive_if (take_if m t) c w) f).tx ≡ pick t (rest m.tx) m.tx
+pub step_tx : (m : Model) (t : Bool) (o : Option ℕ) (f : Bool) → (end_cycle (receive_if (take_if m t) o) f).tx ≡ pick t (rest m.tx) m.tx
 unfolding end_cycle
-step_tx m t c w f = ap (λ (x : Model). x.tx) (step_file m t c w)
+step_tx m t o f = ap (λ (x : Model). x.tx) (step_file m t o)
 
 pub tx_cycle : (d : DeviceModel) (pins : Pins) → (cycle_of d pins).registers.tx ≡ pick (device_step d pins).takes (rest d.registers.tx) d.registers.tx
 unfolding cycle_of
-tx_cycle d pins = let r = device_step d pins in step_tx d.registers r.takes r.complete r.word _
+tx_cycle d pins = let r = device_step d pins in step_tx d.registers r.takes r.completed _
 
 -- An active engine, and one that is not -----------------------------------------------------------------------------------
 

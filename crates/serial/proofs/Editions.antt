@@ -2,10 +2,11 @@
 use Prim.Native.Nat.{ℕ, ◌+◌, ◌≤◌}
 use mathlib.Core.Path.{◌≡◌, refl, sym, ap, ap₂, ◌∙◌}
 use mathlib.Core.Bool.{Bool, true, false, not, ◌&&◌, ◌||◌, and-true, and-false, true≢false}
-use mathlib.Core.List.{List, [], ◌∷◌}
+use mathlib.Core.List.{List}
 use mathlib.Core.Logic.{◌⊎◌, inl, inr}
 use lib.Dec.{ltb, leb, eqb}
 use lib.ListN.{length}
+use Rattle.std.specs.Prelude.{Option, Some, None, is_some}
 use Rattle.registers.specs.Choose.{pick}
 use Rattle.registers.proofs.Picks.{pick_yes, pick_no, pick_both, pick_alike, and_right, or_right}
 use Rattle.registers.specs.Model.{Model, with_edition, with_control, with_timeout}
@@ -24,7 +25,7 @@ use Rattle.registers.specs.declared.settings.Format.{Format}
 use Rattle.registers.specs.declared.settings.Format.TheVariants.{Motorola, Ti, Microwire}
 use Rattle.registers.specs.declared.settings.Format.TheVariants as formats
 use Rattle.registers.specs.declared.settings.Settings.{Settings}
-use Rattle.frames.specs.Engine.{active_of, while_active, cleared, no_word, with_slot, capture_step}
+use Rattle.frames.specs.Engine.{active_of, while_active, cleared, words_of, no_word, with_slot, capture_step}
 use Rattle.frames.specs.Slots.{event_of, last_slot, width_of, capture_width, levels_of}
 use Rattle.frames.specs.Lines.{lines_of, slave_lines, master_lines, master_txd, frame_lines}
 use Rattle.frames.specs.Master.{act, acting, data_bit, master_step, ticked, master_end}
@@ -40,7 +41,7 @@ use Rattle.serial.specs.Cycle.{DeviceModel, active_device, step_of, tick_of, end
 use Rattle.serial.specs.Access.{read_device, write_refusal_of, write_device, engine_after}
 use Rattle.serial.specs.Sound.{sound_device}
 use Rattle.serial.specs.Editions.{EditionStays, EngineStays, Clearing, Rests, of_edition, EditionAlike, NoneTaken, switched_on, with_sse, enabled_empty, GoesAs, FrameGoesOn}
-use Rattle.serial.proofs.Cycles.{control_cycle, step_file, tx_cycle, active_on, active_idle, step_stopped, tick_cleared, cycle_stopped}
+use Rattle.serial.proofs.Cycles.{control_cycle, on_word, step_file, tx_cycle, active_on, active_idle, step_stopped, tick_cleared, cycle_stopped}
 use Rattle.serial.specs.Demand3.{in_edition}
 use Rattle.serial.proofs.Accesses.{engine_enabling}
 use Rattle.serial.proofs.Soundness.{sound_registers_lem, stopped, stopped_elim}
@@ -83,7 +84,7 @@ sse_own s t k = ap (λ (u : Bool). sse u s) k
 
 -- a step but for whether a word was taken
 abbrev untaken : Step → Step
-untaken r = record { engine = r.engine; takes = false; complete = r.complete; word = r.word }
+untaken r = record { engine = r.engine; takes = false; completed = r.completed }
 
 -- Both at once: with SSE clear it takes no word, and apart from that it does what SSE set does with nothing to send.
 record Same (off on : Step) : Type 0 where
@@ -292,12 +293,12 @@ built m e h l = record { registers = m; engine = e; pins = h; lines = l }
 abbrev file_in : Bool → Model → Model
 file_in t m = with_control m (with_edition m.control t)
 
-file_edition : (t : Bool) (m : Model) (a c : Bool) (w : ℕ) (f : Bool) → end_cycle (receive_if (take_if (file_in t m) a) c w) f ≡ file_in t (end_cycle (receive_if (take_if m a) c w) f)
+file_edition : (t : Bool) (m : Model) (a : Bool) (o : Option ℕ) (f : Bool) → end_cycle (receive_if (take_if (file_in t m) a) o) f ≡ file_in t (end_cycle (receive_if (take_if m a) o) f)
 unfolding end_cycle timeout_of idles_of limit_of divisor_of enabled_of take_if receive_if take_word receive_word
-file_edition t m true true w f = refl
-file_edition t m true false w f = refl
-file_edition t m false true w f = refl
-file_edition t m false false w f = refl
+file_edition t m true (Some w) f = refl
+file_edition t m true None f = refl
+file_edition t m false (Some w) f = refl
+file_edition t m false None f = refl
 
 settings_edition : (t : Bool) (c : Control) → settings_of (with_edition c t) ≡ in_edition t (settings_of c)
 unfolding settings_of divisor_of enabled_of
@@ -339,7 +340,7 @@ module _ (t : Bool) (d : DeviceModel) (k : (enabled_of d.registers.control ≡ t
         let h = follow d.pins pins in
         ap₂ (λ (u : Settings) (q : Step). built (end_cycle (step_model (file_in t m) q) (end_of u q.engine).frame) (end_of u q.engine) h (lines_of u q.engine)) (settings_edition t d.registers.control) step_alike
         ∙ ap₂ (λ (e : Engine) (l : Lines). built (end_cycle (step_model (file_in t m) r) e.frame) e h l) (end_edition t s r.engine ends) (lines_edition t s r.engine)
-        ∙ ap (λ (x : Model). built x (end_of s r.engine) h (lines_of s r.engine)) (file_edition t m r.takes r.complete r.word (end_of s r.engine).frame)
+        ∙ ap (λ (x : Model). built x (end_of s r.engine) h (lines_of s r.engine)) (file_edition t m r.takes r.completed (end_of s r.engine).frame)
 
 pub edition_alike : EditionAlike
 edition_alike = record { active = λ t d k. active_alike t d k; cycle = λ t d pins k. cycle_alike t d k pins }
@@ -436,7 +437,7 @@ module _ (d : DeviceModel) (pins : Pins) (h : sound_device d ≡ true) (k : enab
   same-words : completed_of d pins ≡ completed_of (enabled_empty d) pins
   unfolding completed_of
   same-words =
-      let words : Step → List ℕ = λ (r : Step). pick r.complete (r.word ∷ []) [] in
+      let words : Step → List ℕ = λ (r : Step). words_of r.completed in
       ap words is_off ∙ ap words alike ∙ sym (ap words is_on)
 
   same-held : (cycle_of d pins).registers.rx ≡ (cycle_of (enabled_empty d) pins).registers.rx
@@ -445,8 +446,8 @@ module _ (d : DeviceModel) (pins : Pins) (h : sound_device d ≡ true) (k : enab
       let m = d.registers in
       let r = device_step d pins in
       let q = device_step (enabled_empty d) pins in
-      let held : Step → List ℕ = λ (x : Step). pick x.complete (added m.rx x.word) m.rx in
-      ap (λ (x : Model). x.rx) (step_file m r.takes r.complete r.word) ∙ ap held is_off ∙ ap held alike ∙ sym (ap held is_on) ∙ sym (ap (λ (x : Model). x.rx) (step_file (enabled_empty d).registers q.takes q.complete q.word))
+      let held : Step → List ℕ = λ (x : Step). on_word x.completed (λ (w : ℕ). added m.rx w) m.rx in
+      ap (λ (x : Model). x.rx) (step_file m r.takes r.completed) ∙ ap held is_off ∙ ap held alike ∙ sym (ap held is_on) ∙ sym (ap (λ (x : Model). x.rx) (step_file (enabled_empty d).registers q.takes q.completed))
 
   same_overrun : (cycle_of d pins).registers.ror ≡ (cycle_of (enabled_empty d) pins).registers.ror
   unfolding cycle_of end_cycle
@@ -454,16 +455,16 @@ module _ (d : DeviceModel) (pins : Pins) (h : sound_device d ≡ true) (k : enab
       let m = d.registers in
       let r = device_step d pins in
       let q = device_step (enabled_empty d) pins in
-      let lost : Step → Bool = λ (x : Step). pick x.complete (m.ror || not (ltb (length m.rx) 8)) m.ror in
-      ap (λ (x : Model). x.ror) (step_file m r.takes r.complete r.word) ∙ ap lost is_off ∙ ap lost alike ∙ sym (ap lost is_on) ∙ sym (ap (λ (x : Model). x.ror) (step_file (enabled_empty d).registers q.takes q.complete q.word))
+      let lost : Step → Bool = λ (x : Step). pick (is_some x.completed) (m.ror || not (ltb (length m.rx) 8)) m.ror in
+      ap (λ (x : Model). x.ror) (step_file m r.takes r.completed) ∙ ap lost is_off ∙ ap lost alike ∙ sym (ap lost is_on) ∙ sym (ap (λ (x : Model). x.ror) (step_file (enabled_empty d).registers q.takes q.completed))
 
-  same_timeout : (cycle_of d pins).registers.timeout ≡ record { rt = pick (device_step d pins).complete false d.registers.timeout.rt; count = cycles 0 }
+  same_timeout : (cycle_of d pins).registers.timeout ≡ record { rt = pick (is_some (device_step d pins).completed) false d.registers.timeout.rt; count = cycles 0 }
   unfolding cycle_of end_cycle
   same_timeout =
       let m = d.registers in
       let r = device_step d pins in
-      timeout_off (step_model m r) (end_of own r.engine).frame (ap (λ (x : Model). enabled_of x.control) (step_file m r.takes r.complete r.word) ∙ k)
-      ∙ ap (λ (x : Model). record { rt = x.timeout.rt; count = cycles 0 }) (step_file m r.takes r.complete r.word)
+      timeout_off (step_model m r) (end_of own r.engine).frame (ap (λ (x : Model). enabled_of x.control) (step_file m r.takes r.completed) ∙ k)
+      ∙ ap (λ (x : Model). record { rt = x.timeout.rt; count = cycles 0 }) (step_file m r.takes r.completed)
 
   -- the engine after the cycle, before it is cleared
   abbrev after : Engine

@@ -9,15 +9,18 @@ use lib.Dec.{ltb, eqb, eqb-suc-zero}
 use lib.ListN.{length, take, drop, length-append, take-append-drop}
 use lib.Seq.{take-nil, drop-nil}
 use borrow.Author.Tests.{lt-ltb, ltb-true, ltb-false}
+use Rattle.std.specs.Prelude.{Option, Some, None, is_some}
 use Rattle.registers.specs.Choose.{pick}
 use Rattle.registers.specs.Model.{Model}
 use Rattle.registers.specs.Transfer.{added, dropped, take_word, lost_word, lost_words, end_cycle}
 use Rattle.registers.specs.declared.transfer.Lost.{Lost}
 use Rattle.registers.specs.declared.transfer.Lost.TheVariants.{Word, Nothing}
-use Rattle.serial.specs.Cycle.{DeviceModel, take_if, device_step, completed_of, kept_of, lost_of, cycle_of, after, words_in, completed_in, kept_in, lost_in}
+use Rattle.serial.specs.Cycle.{DeviceModel, take_if, lost_if, device_step, completed_of, kept_of, lost_of, cycle_of, after, words_in, completed_in, kept_in, lost_in}
 use Rattle.serial.specs.Lost.{last_from, losses_of, highest, noted, some, LostInCycle, LostInRun, Numbers}
 use Rattle.serial.specs.declared.lost.Losses.{Losses}
-use Rattle.serial.proofs.Cycles.{step_file}
+use Rattle.serial.proofs.Cycles.{on_word, step_file}
+use Rattle.frames.specs.Engine.{words_of}
+use Rattle.registers.proofs.Picks.{pick_both}
 use Rattle.frames.specs.declared.lines.Pins.{Pins}
 
 -- A cycle --------------------------------------------------------------------------------------------------------------
@@ -30,56 +33,51 @@ completed_cycle : (d : DeviceModel) (pins : Pins) → completed_of d pins ≡ ke
 unfolding kept_of lost_of
 completed_cycle d pins = split_words (ltb (length d.registers.rx) 8) (completed_of d pins)
 
--- c says whether a word is complete, t whether there is a place for it
-held_by : (xs : List ℕ) (c t : Bool) (w : ℕ) → pick c (pick t (xs ++ (w ∷ [])) xs) xs ≡ xs ++ pick t (pick c (w ∷ []) []) []
-held_by xs true true w = refl
-held_by xs true false w = sym (append-nil xs)
-held_by xs false true w = sym (append-nil xs)
-held_by xs false false w = sym (append-nil xs)
+-- o is the word completed, t says whether there is a place for it
+held_by : (xs : List ℕ) (o : Option ℕ) (t : Bool) → on_word o (λ (w : ℕ). pick t (xs ++ (w ∷ [])) xs) xs ≡ xs ++ pick t (words_of o) []
+held_by xs (Some w) true = refl
+held_by xs (Some w) false = sym (append-nil xs)
+held_by xs None true = sym (append-nil xs)
+held_by xs None false = sym (append-nil xs)
 
-overrun_by : (r c t : Bool) (w : ℕ) → pick c (r || not t) r ≡ (r || some (pick t [] (pick c (w ∷ []) [])))
-overrun_by r true true w = refl
-overrun_by r true false w = refl
-overrun_by r false true w = sym (or-false r)
-overrun_by r false false w = sym (or-false r)
+overrun_by : (r : Bool) (o : Option ℕ) (t : Bool) → pick (is_some o) (r || not t) r ≡ (r || some (pick t [] (words_of o)))
+overrun_by r (Some w) true = refl
+overrun_by r (Some w) false = refl
+overrun_by r None true = sym (or-false r)
+overrun_by r None false = sym (or-false r)
 
 module _ (d : DeviceModel) (pins : Pins) where
   held_cycle : (cycle_of d pins).registers.rx ≡ d.registers.rx ++ kept_of d pins
   unfolding cycle_of end_cycle kept_of completed_of added
   held_cycle =
       let r = device_step d pins in
-      ap (λ (m : Model). m.rx) (step_file d.registers r.takes r.complete r.word)
-      ∙ held_by d.registers.rx r.complete (ltb (length d.registers.rx) 8) r.word
+      ap (λ (m : Model). m.rx) (step_file d.registers r.takes r.completed)
+      ∙ held_by d.registers.rx r.completed (ltb (length d.registers.rx) 8)
 
   overrun_cycle : (cycle_of d pins).registers.ror ≡ (d.registers.ror || some (lost_of d pins))
   unfolding cycle_of end_cycle lost_of completed_of
   overrun_cycle =
       let r = device_step d pins in
-      ap (λ (m : Model). m.ror) (step_file d.registers r.takes r.complete r.word)
-      ∙ overrun_by d.registers.ror r.complete (ltb (length d.registers.rx) 8) r.word
+      ap (λ (m : Model). m.ror) (step_file d.registers r.takes r.completed)
+      ∙ overrun_by d.registers.ror r.completed (ltb (length d.registers.rx) 8)
 
 pub lost_in_cycle : LostInCycle
 lost_in_cycle = record { completed = completed_cycle; held = held_cycle; overrun = overrun_cycle }
 
 -- What the code of a step hands up.
-lost_by : (t c : Bool) (w : ℕ) → pick c (pick t [] (w ∷ [])) [] ≡ pick t [] (pick c (w ∷ []) [])
-lost_by true true w = refl
-lost_by true false w = refl
-lost_by false true w = refl
-lost_by false false w = refl
-
 take_rx : (m : Model) (t : Bool) → (take_if m t).rx ≡ m.rx
 unfolding take_if take_word
 take_rx m true = refl
 take_rx m false = refl
 
-pub lost_step : (d : DeviceModel) (pins : Pins)
-    → pick (device_step d pins).complete (lost_word (take_if d.registers (device_step d pins).takes) (device_step d pins).word) [] ≡ lost_of d pins
-unfolding lost_of completed_of lost_word dropped
-lost_step d pins =
-    let r = device_step d pins in
-    ap (λ (xs : List ℕ). pick r.complete (dropped xs r.word) []) (take_rx d.registers r.takes)
-    ∙ lost_by (ltb (length d.registers.rx) 8) r.complete r.word
+lost_by : (m : Model) (t : Bool) (o : Option ℕ) → lost_if (take_if m t) o ≡ pick (ltb (length m.rx) 8) [] (words_of o)
+unfolding lost_word dropped
+lost_by m t None = pick_both (λ (ws : List ℕ). [] ≡ ws) (ltb (length m.rx) 8) [] [] (λ _. refl) (λ _. refl)
+lost_by m t (Some w) = ap (λ (xs : List ℕ). dropped xs w) (take_rx m t)
+
+pub lost_step : (d : DeviceModel) (pins : Pins) → lost_if (take_if d.registers (device_step d pins).takes) (device_step d pins).completed ≡ lost_of d pins
+unfolding lost_of completed_of
+lost_step d pins = lost_by d.registers (device_step d pins).takes (device_step d pins).completed
 
 -- A run ----------------------------------------------------------------------------------------------------------------
 
@@ -94,27 +92,27 @@ drop_join zero (x ∷ xs) ys = rw zero-sub
 drop_join (suc n) (x ∷ xs) ys = rw suc-sub-suc (drop_join n xs ys)
 
 -- The words kept are the first of those completed, as many as there are places, the words lost are the others: none or one word.
--- c says whether there is one, t whether there is a place.
+-- o is the word completed, t says whether there is a place.
 
-kept_by : (xs : List ℕ) (c t : Bool) (w : ℕ) → ltb (length xs) 8 ≡ t → pick t (pick c (w ∷ []) []) [] ≡ take (8 - length xs) (pick c (w ∷ []) [])
-kept_by xs true true w e =
+kept_by : (xs : List ℕ) (o : Option ℕ) (t : Bool) → ltb (length xs) 8 ≡ t → pick t (words_of o) [] ≡ take (8 - length xs) (words_of o)
+kept_by xs (Some w) true e =
     let k : 8 - length xs ≡ suc (7 - length xs) = let h = ltb-true (length xs) 8 e in omega arith in
     sym (ap (λ (n : ℕ). take n (w ∷ [])) k ∙ ap (λ (l : List ℕ). w ∷ l) (take-nil (7 - length xs)))
-kept_by xs true false w e =
+kept_by xs (Some w) false e =
     let k : 8 - length xs ≡ 0 = let h = ltb-false (length xs) 8 e in omega arith in
     rw k
-kept_by xs false true w e = sym (take-nil (8 - length xs))
-kept_by xs false false w e = sym (take-nil (8 - length xs))
+kept_by xs None true e = sym (take-nil (8 - length xs))
+kept_by xs None false e = sym (take-nil (8 - length xs))
 
-rest_by : (xs : List ℕ) (c t : Bool) (w : ℕ) → ltb (length xs) 8 ≡ t → pick t [] (pick c (w ∷ []) []) ≡ drop (8 - length xs) (pick c (w ∷ []) [])
-rest_by xs true true w e =
+rest_by : (xs : List ℕ) (o : Option ℕ) (t : Bool) → ltb (length xs) 8 ≡ t → pick t [] (words_of o) ≡ drop (8 - length xs) (words_of o)
+rest_by xs (Some w) true e =
     let k : 8 - length xs ≡ suc (7 - length xs) = let h = ltb-true (length xs) 8 e in omega arith in
     sym (ap (λ (n : ℕ). drop n (w ∷ [])) k ∙ drop-nil (7 - length xs))
-rest_by xs true false w e =
+rest_by xs (Some w) false e =
     let k : 8 - length xs ≡ 0 = let h = ltb-false (length xs) 8 e in omega arith in
     rw k
-rest_by xs false true w e = sym (drop-nil (8 - length xs))
-rest_by xs false false w e = sym (drop-nil (8 - length xs))
+rest_by xs None true e = sym (drop-nil (8 - length xs))
+rest_by xs None false e = sym (drop-nil (8 - length xs))
 
 left_by_lem : (xs ws : List ℕ) (t : Bool) → ltb (length xs) 8 ≡ t → 8 - length (xs ++ pick t ws []) ≡ 8 - length xs - length ws
 left_by_lem xs ws true e = let a = length-append xs ws in omega arith
@@ -127,11 +125,11 @@ places d = 8 - length d.registers.rx
 module _ (d : DeviceModel) (pins : Pins) where
   kept_cycle : kept_of d pins ≡ take (places d) (completed_of d pins)
   unfolding kept_of completed_of
-  kept_cycle = kept_by d.registers.rx (device_step d pins).complete _ (device_step d pins).word refl
+  kept_cycle = kept_by d.registers.rx (device_step d pins).completed _ refl
 
   lost_cycle : lost_of d pins ≡ drop (places d) (completed_of d pins)
   unfolding lost_of completed_of
-  lost_cycle = rest_by d.registers.rx (device_step d pins).complete _ (device_step d pins).word refl
+  lost_cycle = rest_by d.registers.rx (device_step d pins).completed _ refl
 
   places_cycle : places (cycle_of d pins) ≡ places d - length (completed_of d pins)
   unfolding kept_of
@@ -169,14 +167,14 @@ overrun_run d (p ∷ ps) =
     overrun_run (cycle_of d p) ps ∙ ap (λ (r : Bool). r || some (lost_in (cycle_of d p) ps)) (overrun_cycle d p)
     ∙ some_join d.registers.ror (lost_of d p) (lost_in (cycle_of d p) ps)
 
-one_at_most : (t c : Bool) (w : ℕ) → length (pick t [] (pick c (w ∷ []) [])) ≤ 1
-one_at_most true c w = omega arith
-one_at_most false true w = omega arith
-one_at_most false false w = omega arith
+one_at_most : (t : Bool) (o : Option ℕ) → length (pick t [] (words_of o)) ≤ 1
+one_at_most true o = omega arith
+one_at_most false (Some w) = omega arith
+one_at_most false None = omega arith
 
 lost_most : (d : DeviceModel) (pins : Pins) → length (lost_of d pins) ≤ 1
 unfolding lost_of completed_of
-lost_most d pins = one_at_most (ltb (length d.registers.rx) 8) (device_step d pins).complete (device_step d pins).word
+lost_most d pins = one_at_most (ltb (length d.registers.rx) 8) (device_step d pins).completed
 
 most_run : (d : DeviceModel) (ps : List Pins) → length (lost_in d ps) ≤ length ps
 most_run d [] = omega arith

@@ -1,12 +1,14 @@
 -- Reset is sound, and every access and every cycle keeps a device sound and within the bytes of a record.
 use Prim.Native.Nat.{ℕ, ◌+◌, ◌-◌, ◌*◌, ◌/◌, ◌%◌, ◌^◌, ◌≤◌, ◌<◌}
-use mathlib.Core.Path.{◌≡◌, refl, sym, ap, ◌∙◌}
+use mathlib.Core.Path.{◌≡◌, refl, sym, ap, ◌∙◌, subst}
 use mathlib.Core.Bool.{Bool, true, false, not, ◌&&◌, ◌||◌}
 use mathlib.Core.Logic.{◌⊎◌, inl, inr}
 use native.Mathlib.Omega.{arith}
 use native.Mathlib.Nat.{mod-le}
 use lib.Dec.{ltb, leb, eqb}
 use borrow.Author.Tests.{ltb-true, leb-true, leb-false, eqb-true, lt-ltb, le-leb}
+use Rattle.std.specs.Prelude.{Option, Some, None}
+use Rattle.std.specs.Bool.{then_some}
 use Rattle.registers.specs.Time.{slots}
 use Rattle.registers.specs.Choose.{pick}
 use Rattle.registers.specs.Bits.{bit_at}
@@ -52,9 +54,14 @@ pub record EngineFacts (F : Type 0) (s : Settings) (e : Engine) : Type 0 where
   pub elapsed : e.elapsed.0 < s.divisor.0
   pub shift : ShiftFacts F (capture_width s) e.shift
 
+-- The word of a step, if there is one, fits.
+abbrev pub WordFits : Option ℕ → Type 0
+WordFits None = Unit {0}
+WordFits (Some w) = w < 0x10000
+
 pub record StepFacts (F : Type 0) (s : Settings) (r : Step) : Type 0 where
   pub engine : EngineFacts F s r.engine
-  pub word : r.word < 0x10000
+  pub word : WordFits r.completed
 
 -- Where a chained word's slot lies: at most the last.
 abbrev Lands : ℕ → Event → Type 0
@@ -133,13 +140,17 @@ module _ (F : Type 0) (b : ℕ) where
 
 -- The engine's steps -------------------------------------------------------------------------------------------------
 
+then_fits : (t : Bool) (w : ℕ) → w < 0x10000 → WordFits (then_some t w)
+then_fits true w h = h
+then_fits false w h = tt
+
 module _ (F : Type 0) (s : Settings) where
   -- h is not 0 where any engine runs
   engine_cleared : (e : Engine) → EngineFacts F s e → EngineFacts F s cleared
   engine_cleared e t = record { slot = omega arith; elapsed = let p = t.elapsed in omega arith; shift = shift_cleared F (capture_width s) }
 
   step_none : (e : Engine) → EngineFacts F s e → StepFacts F s (no_word e)
-  step_none e t = record { engine = t; word = omega arith }
+  step_none e t = record { engine = t; word = tt }
 
   step_pick : (t : Bool) (x y : Step) → StepFacts F s x → StepFacts F s y → StepFacts F s (pick t x y)
   step_pick t x y p q = pick_both (λ (r : Step). StepFacts F s r) t x y (λ _. p) (λ _. q)
@@ -151,13 +162,13 @@ module _ (F : Type 0) (s : Settings) where
   unfolding capture_step shifted_in
   step_capture bit e t = record {
     engine = record { slot = t.slot; elapsed = t.elapsed; shift = shift_captured F (capture_width s) bit e.shift t.shift };
-    word = pick_both (λ (n : ℕ). n < 0x10000) (completes (capture_width s) e.shift) _ _ (λ _. let l = mod-le (shifted_in e.shift.receiving bit) (2 ^ capture_width s) in omega arith) (λ _. omega arith);
+    word = then_fits (completes (capture_width s) e.shift) _ (let l = mod-le (shifted_in e.shift.receiving bit) (2 ^ capture_width s) in omega arith);
   }
 
   step_drive : (i width : ℕ) (e : Engine) → EngineFacts F s e → StepFacts F s (no_word (with_shift e (driven width i e.shift)))
   step_drive i width e t = record {
     engine = record { slot = t.slot; elapsed = t.elapsed; shift = shift_driven F (capture_width s) width i e.shift t.shift };
-    word = omega arith;
+    word = tt;
   }
 
   -- The master -----------------------------------------------------------------------------------------------------
@@ -169,34 +180,34 @@ module _ (F : Type 0) (s : Settings) where
   step_act : (e : Engine) (waiting : Bool) (next : ℕ) (bit : Bool) (v : Event) → EngineFacts F s e → (F → next < 0x10000) → Lands (last_slot s).0 v → StepFacts F s (act s e waiting next bit v)
   step_act e waiting next bit Begin t n l = record {
     engine = record { slot = t.slot; elapsed = t.elapsed; shift = shift_loaded F (capture_width s) (offered s.enabled next) (offered_fits s.enabled next n) };
-    word = omega arith;
+    word = tt;
   }
   step_act e waiting next bit BeginDrive t n l = record {
     engine = record { slot = t.slot; elapsed = t.elapsed; shift = shift_started F (capture_width s) (width_of s) (offered s.enabled next) (offered_fits s.enabled next n) };
-    word = omega arith;
+    word = tt;
   }
   step_act e waiting next bit (Drive i) t n l = step_drive i (width_of s) e t
   step_act e waiting next bit First t n l = record {
     engine = record { slot = t.slot; elapsed = t.elapsed; shift = shift_started F (capture_width s) (width_of s) e.shift.sending t.shift.sending };
-    word = omega arith;
+    word = tt;
   }
   step_act e waiting next bit Capture t n l = step_capture bit e t
   step_act e waiting next bit (Chain k) t n l =
       step_pick waiting _ _
-      (record { engine = record { slot = l; elapsed = t.elapsed; shift = shift_started F (capture_width s) (width_of s) next n }; word = omega arith })
+      (record { engine = record { slot = l; elapsed = t.elapsed; shift = shift_started F (capture_width s) (width_of s) next n }; word = tt })
       (step_none e t)
   step_act e waiting next bit (JoinDrive i) t n l =
       step_pick waiting _ _
-      (record { engine = record { slot = omega arith; elapsed = t.elapsed; shift = shift_joined F (capture_width s) (width_of s) i next e.shift n t.shift }; word = omega arith })
+      (record { engine = record { slot = omega arith; elapsed = t.elapsed; shift = shift_joined F (capture_width s) (width_of s) i next e.shift n t.shift }; word = tt })
       (step_drive i (width_of s) e t)
   step_act e waiting next bit JoinCapture t n l = step_pick (eqb e.shift.captured 0) _ _ (step_none e t) (step_capture bit e t)
   step_act e waiting next bit Quiet t n l = record {
     engine = record { slot = t.slot; elapsed = t.elapsed; shift = shift_quieted F (capture_width s) e.shift t.shift };
-    word = omega arith;
+    word = tt;
   }
   step_act e waiting next bit Release t n l = record {
     engine = record { slot = t.slot; elapsed = t.elapsed; shift = shift_cleared F (capture_width s) };
-    word = omega arith;
+    word = tt;
   }
   step_act e waiting next bit Pause t n l = step_none e t
 
@@ -222,7 +233,7 @@ module _ (F : Type 0) (s : Settings) where
   step_take e may next t n =
       record {
         engine = record { slot = t.slot; elapsed = t.elapsed; shift = shift_started F (capture_width s) s.bits (offered may next) (offered_fits may next n) };
-        word = omega arith;
+        word = tt;
       }
 
   step_select : (e : Engine) (fell : Bool) (next : ℕ) → EngineFacts F s e → (F → next < 0x10000) → StepFacts F s (motorola_select s e fell next)
@@ -258,7 +269,7 @@ module _ (F : Type 0) (s : Settings) where
       let m : EngineFacts F s (with_mark e (e.mark || fss)) = record { slot = t.slot; elapsed = t.elapsed; shift = t.shift } in
       step_pick e.frame _ _
       (step_pick (fss && ltb (e.shift.captured + 1) (capture_width s)) _ _
-      (record { engine = record { slot = t.slot; elapsed = t.elapsed; shift = shift_cleared F (capture_width s) }; word = omega arith })
+      (record { engine = record { slot = t.slot; elapsed = t.elapsed; shift = shift_cleared F (capture_width s) }; word = tt })
       (step_capture bit (with_mark e (e.mark || fss)) m))
       (step_none (with_mark e (e.mark || fss)) m)
 
@@ -568,14 +579,14 @@ registers_cycle : (d : DeviceModel) (pins : Pins) → sound_device d ≡ true �
 unfolding cycle_of take_word receive_word
 registers_cycle d pins h =
     let a = active_device d in
-    let k = step_keeps (λ (x : Model). (Enables x.control a) × (sound_registers x a ≡ true)) d.registers (device_step d pins) (λ x k. (k.0, file.sound_take x a k.1)) (λ x k. (k.0, file.sound_receive x a (device_step d pins).word k.1)) (active_on _ d.engine, sound_registers_lem d h) in
+    let k = step_keeps (λ (x : Model). (Enables x.control a) × (sound_registers x a ≡ true)) d.registers (device_step d pins) (λ x k. (k.0, file.sound_take x a k.1)) (λ w e x k. (k.0, file.sound_receive x a w k.1)) (active_on _ d.engine, sound_registers_lem d h) in
     file.sound_end _ a _ k.0 k.1
 
-fits_registers_cycle : (d : DeviceModel) (pins : Pins) → (device_step d pins).word < 0x10000 → registers_fit d.registers ≡ true → registers_fit (cycle_of d pins).registers ≡ true
+fits_registers_cycle : (d : DeviceModel) (pins : Pins) → WordFits (device_step d pins).completed → registers_fit d.registers ≡ true → registers_fit (cycle_of d pins).registers ≡ true
 unfolding cycle_of
-fits_registers_cycle d pins w h =
+fits_registers_cycle d pins f h =
     file.fits_end _ _
-    (step_keeps (λ (x : Model). registers_fit x ≡ true) d.registers (device_step d pins) file.fits_take (λ x k. file.fits_receive x (device_step d pins).word w k) h)
+    (step_keeps (λ (x : Model). registers_fit x ≡ true) d.registers (device_step d pins) file.fits_take (λ w e x k. file.fits_receive x w (subst WordFits e f) k) h)
 
 step_active : (d : DeviceModel) (pins : Pins) → sound_device d ≡ true → active_device d ≡ true → StepFacts (device_fits d ≡ true) (settings_of d.registers.control) (device_step d pins)
 unfolding device_step step_of
@@ -664,4 +675,4 @@ fits_cycle d pins h f = go (active_device d) refl
         fits_both (cycle_of d pins) (fits_registers_cycle d pins (step_active d pins h k).word (fits_registers d f))
         (running_fit _ d.registers.control _ (file.fits_elim d.registers (fits_registers d f)).cpsr (cycle_active d pins h k) f)
     go false k =
-        fits_both (cycle_of d pins) (fits_registers_cycle d pins (rw (step_stopped d pins k) (omega arith)) (fits_registers d f)) (rw (cycle_stopped d pins k) cleared_fit)
+        fits_both (cycle_of d pins) (fits_registers_cycle d pins (rw (step_stopped d pins k) tt) (fits_registers d f)) (rw (cycle_stopped d pins k) cleared_fit)

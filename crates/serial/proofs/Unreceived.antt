@@ -7,6 +7,7 @@ use mathlib.Core.List.{List}
 use lib.Dec.{ltb, eqb}
 use lib.ListN.{get_or}
 use Rattle.serial.specs.Slave.{with_mark}
+use Rattle.std.specs.Prelude.{None}
 use Rattle.registers.specs.Choose.{pick}
 use Rattle.registers.proofs.Picks.{pick_no, pick_alike}
 use Rattle.registers.specs.Settings.{settings_of}
@@ -33,7 +34,7 @@ abbrev pub without_received : Engine → Engine
 without_received e = with_mark (with_selected (with_shift e (shift_without_received e.shift)) false) false
 
 abbrev pub step_without_received : Step → Step
-step_without_received r = record { engine = without_received r.engine; takes = r.takes; complete = false; word = 0 }
+step_without_received r = record { engine = without_received r.engine; takes = r.takes; completed = None }
 
 -- A step and the end of a cycle ----------------------------------------------------------------------------------------
 

@@ -1,5 +1,5 @@
 -- A device, and one cycle of it.
-use Rattle.std.specs.Prelude.{ℕ, ◌≡◌, Bool, true, false, List, [], ◌∷◌, ◌++◌, map, ltb, length}
+use Rattle.std.specs.Prelude.{ℕ, ◌≡◌, Bool, true, false, List, [], ◌∷◌, ◌++◌, Option, Some, None, map, ltb, length}
 use Rattle.registers.specs.Choose.{pick}
 use Rattle.registers.specs.Model.{Model, model_of, reset_registers}
 use Rattle.registers.specs.Settings.{settings_of}
@@ -7,7 +7,7 @@ use Rattle.registers.specs.Transfer.{waiting_of, next_word, take_word, receive_w
 use Rattle.registers.specs.declared.settings.Settings.{Settings}
 use Rattle.registers.specs.declared.transfer.Lost.TheVariants.{Nothing}
 use Rattle.registers.specs.declared.transfer.Received.{Received}
-use Rattle.frames.specs.Engine.{active_of, cleared, while_active, no_word}
+use Rattle.frames.specs.Engine.{active_of, cleared, while_active, words_of, no_word}
 use Rattle.frames.specs.Lines.{lines_of}
 use Rattle.frames.specs.Master.{master_step, master_end}
 use Rattle.serial.specs.Slave.{slave_step, slave_end}
@@ -78,17 +78,23 @@ unfoldable pub take_if : Model → Bool → Model
 take_if m takes = pick takes (take_word m) m
 
 -- A word that was completed enters the receive queue, or is lost to overrun.
-unfoldable pub receive_if : Model → Bool → ℕ → Model
-receive_if m complete w = pick complete (receive_word m w) m
+unfoldable pub receive_if : Model → Option ℕ → Model
+receive_if m None = m
+receive_if m (Some w) = receive_word m w
+
+-- The words lost in this: one or none.
+abbrev pub lost_if : Model → Option ℕ → List ℕ
+lost_if m None = []
+lost_if m (Some w) = lost_word m w
 
 -- What the code gives for this: the register file, and the words lost.
-pub record ReceiveIf (m : Model) (complete : Bool) (w : ℕ) (r : Received) : Type 0 where
-  pub registers : model_of r.registers ≡ receive_if m complete w
-  pub lost : lost_words r.lost ≡ pick complete (lost_word m w) []
+pub record ReceiveIf (m : Model) (completed : Option ℕ) (r : Received) : Type 0 where
+  pub registers : model_of r.registers ≡ receive_if m completed
+  pub lost : lost_words r.lost ≡ lost_if m completed
 
 -- The register file after a step.
 abbrev pub step_model : Model → Step → Model
-step_model m r = receive_if (take_if m r.takes) r.complete r.word
+step_model m r = receive_if (take_if m r.takes) r.completed
 
 -- The step of a device in a cycle.
 unfoldable pub device_step : DeviceModel → Pins → Step
@@ -97,7 +103,7 @@ device_step d pins =
 
 -- The words completed in a cycle: none or one.
 unfoldable pub completed_of : DeviceModel → Pins → List ℕ
-completed_of d pins = pick (device_step d pins).complete ((device_step d pins).word ∷ []) []
+completed_of d pins = words_of (device_step d pins).completed
 
 -- The words lost in a cycle: those completed if eight are held when it begins, otherwise none. By `lost_step` the receive
 -- queue drops exactly these.

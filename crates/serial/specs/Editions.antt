@@ -1,5 +1,5 @@
 -- The two editions as statements: what happens to a frame when SSE is cleared. Proofs: proofs/Editions.antt.
-use Rattle.std.specs.Prelude.{ℕ, ◌+◌, ◌≡◌, Bool, true, false, ◌&&◌, ◌⊎◌, []}
+use Rattle.std.specs.Prelude.{ℕ, ◌+◌, ◌≡◌, Bool, true, false, ◌&&◌, ◌⊎◌, [], is_some}
 use Rattle.registers.specs.Choose.{pick}
 use Rattle.registers.specs.Time.{cycles}
 use Rattle.registers.specs.Model.{with_cr1, with_edition, with_control, with_timeout, with_tx}
@@ -71,7 +71,7 @@ pub record GoesAs (d : DeviceModel) (pins : Pins) : Type 0 where
   pub held : (cycle_of d pins).registers.rx ≡ (cycle_of (enabled_empty d) pins).registers.rx
   pub overrun : (cycle_of d pins).registers.ror ≡ (cycle_of (enabled_empty d) pins).registers.ror
   -- a completed word clears RT; the cycle does not count
-  pub timeout : (cycle_of d pins).registers.timeout ≡ record { rt = pick (device_step d pins).complete false d.registers.timeout.rt; count = cycles 0 }
+  pub timeout : (cycle_of d pins).registers.timeout ≡ record { rt = pick (is_some (device_step d pins).completed) false d.registers.timeout.rt; count = cycles 0 }
   -- the engine is clear when the frame is over
   pub engine : (cycle_of d pins).engine ≡ pick (cycle_of (enabled_empty d) pins).engine.frame (cycle_of (enabled_empty d) pins).engine cleared
 

@@ -60,7 +60,7 @@ motorola_clock s e captures drives next bit =
 
 -- Two steps in one cycle; the first completes no word.
 abbrev pub after_taking : Bool → Step → Step
-after_taking took r = record { engine = r.engine; takes = took || r.takes; complete = r.complete; word = r.word }
+after_taking took r = record { engine = r.engine; takes = took || r.takes; completed = r.completed }
 
 -- Edges of CLK count only while selected.
 unfoldable pub motorola_edges : Settings → Step → Pins → Pins → ℕ → Step

@@ -63,16 +63,15 @@ fn take_if(r: Registers, takes: bool) -> Registers
     }
 }
 
-fn receive_if(r: Registers, complete: bool, word: u16) -> Received
-    ensures { ReceiveIf (model_of r) complete word result }
+fn receive_if(r: Registers, completed: Option<u16>) -> Received
+    ensures { ReceiveIf (model_of r) completed result }
 {
-    if complete {
-        registers::transfer::receive_word(r, word)
-    } else {
-        Received {
+    match completed {
+        Some(word) => registers::transfer::receive_word(r, word),
+        None => Received {
             lost: Lost::Nothing,
             registers: r,
-        }
+        },
     }
 }
 
@@ -91,7 +90,7 @@ pub fn cycle_of(d: Device, pins: Pins) -> Cycled
     let lines = frames::lines::lines_of(s, shown);
     let after = end_of(s, shown);
     let without = take_if(r, step.takes);
-    let received = receive_if(without, step.complete, step.word);
+    let received = receive_if(without, step.completed);
     let lost = received.lost;
     let with = received.registers;
     let ended = registers::transfer::end_cycle(with, after.frame);

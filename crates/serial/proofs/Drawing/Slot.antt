@@ -7,6 +7,7 @@ use native.Mathlib.Omega.{arith}
 use lib.ListN.{get_or, replicate}
 use borrow.Author.Tests.{lt-ltb, ne_eqb}
 use Rattle.registers.specs.Settings.{settings_by}
+use Rattle.std.specs.Prelude.{None}
 use Rattle.registers.specs.Choose.{pick}
 use Rattle.registers.specs.Time.{slots}
 use Rattle.registers.specs.Transfer.{rest}
@@ -130,7 +131,7 @@ on n c d w tx = solo tx (sending n (shifted c d w 0))
 
 -- what an event leaves in a frame: the slot, the shift registers, and whether a word is taken
 abbrev pub move : ℕ → ℕ → Bool → ℕ → Bool → Step
-move n c d w t = record { engine = sending n (shifted c d w 0); takes = t; complete = false; word = 0 }
+move n c d w t = record { engine = sending n (shifted c d w 0); takes = t; completed = None }
 
 -- no frame and no idle slot
 abbrev pub rest_at : Shift → Engine

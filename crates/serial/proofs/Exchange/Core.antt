@@ -15,7 +15,7 @@ use Rattle.frames.specs.Master.{master_step, master_end}
 use Rattle.serial.specs.Slave.{slave_step, slave_end}
 use Rattle.serial.specs.Cycle.{follow}
 use Rattle.serial.specs.Pair.{wire}
-use Rattle.serial.proofs.Cycles.{waits}
+use Rattle.serial.proofs.Cycles.{on_word, waits}
 use Rattle.serial.specs.declared.History.{History}
 use Rattle.frames.specs.declared.engine.Engine.{Engine}
 use Rattle.frames.specs.declared.engine.Step.{Step}
@@ -44,7 +44,7 @@ plain f phase b h slave =
 
 -- a step with its words moved
 abbrev pub moved : Step → Side → Lines → Side
-moved r x l = record { tx = pick r.takes (rest x.tx) x.tx; rx = pick r.complete (push r.word x.rx) x.rx; engine = r.engine; lines = l }
+moved r x l = record { tx = pick r.takes (rest x.tx) x.tx; rx = on_word r.completed (λ (w : ℕ). push w x.rx) x.rx; engine = r.engine; lines = l }
 
 abbrev pub master_moves : Settings → Side → Bool → Step
 master_moves s x rxd = master_step s x.engine (waits x.tx) (get_or x.tx 0 0) rxd

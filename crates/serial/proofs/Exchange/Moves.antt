@@ -8,6 +8,7 @@ use native.Mathlib.Nat.{mod-eq_of_lt, mod-lt}
 use lib.Pow.{pow_pos}
 use lib.ListN.{get_or}
 use borrow.Author.Tests.{eq-eqb, ne_eqb, lt-ltb}
+use Rattle.std.specs.Prelude.{Some}
 use Rattle.registers.specs.Time.{slots}
 use Rattle.registers.specs.declared.settings.Settings.{Settings}
 use Rattle.frames.specs.Bits.{bit_of, cut, shifted_in}
@@ -84,7 +85,7 @@ unfolding capture_step captured_of completes
 capture_in b d e l = rw (lt-ltb e.shift.captured b (omega arith), ne_eqb (e.shift.captured + 1) b (omega arith))
 
 abbrev pub completed : Engine → ℕ → Step
-completed e w = record { engine = with_shift e (shifted (e.shift.captured + 1) e.shift.level e.shift.sending w); takes = false; complete = true; word = w }
+completed e w = record { engine = with_shift e (shifted (e.shift.captured + 1) e.shift.level e.shift.sending w); takes = false; completed = Some w }
 
 pub capture_last : (b : ℕ) (d : Bool) (e : Engine) (w : ℕ) → e.shift.captured + 1 ≡ b → shifted_in e.shift.receiving d ≡ cut b w → capture_step b d e ≡ completed e (cut b w)
 unfolding capture_step captured_of completes

@@ -3,15 +3,17 @@
 use Prim.Native.Nat.{ℕ}
 use mathlib.Core.Path.{◌≡◌, refl, sym, ap, ap₂, ◌∙◌}
 use mathlib.Core.Bool.{Bool, true, false, not, ◌&&◌}
-use mathlib.Core.List.{List, [], ◌∷◌, ◌++◌, append-nil}
+use mathlib.Core.List.{List, ◌++◌, append-nil}
 use lib.Dec.{eqb}
 use lib.ListN.{length, get_or}
+use Rattle.std.specs.Prelude.{Option, Some, None}
 use Rattle.registers.specs.Choose.{pick}
 use Rattle.registers.specs.Model.{Model}
 use Rattle.registers.specs.Settings.{settings_of, enabled_of}
 use Rattle.registers.specs.Transfer.{rest, waiting_of, next_word, take_word, receive_word, end_cycle}
 use Rattle.registers.specs.declared.settings.Format.{Format}
 use Rattle.registers.specs.declared.settings.Settings.{Settings}
+use Rattle.frames.specs.Engine.{words_of}
 use Rattle.frames.specs.Lines.{master_lines, slave_lines, lines_of}
 use Rattle.frames.specs.Master.{master_step}
 use Rattle.serial.specs.Slave.{slave_step, slave_end}
@@ -19,7 +21,7 @@ use Rattle.serial.specs.Cycle.{DeviceModel, step_of, tick_of, end_of, take_if, r
 use Rattle.serial.specs.Pair.{wire, PairModel, pair_cycle}
 use Rattle.serial.specs.Demand3.{Agree, completed}
 use Rattle.serial.specs.Demand3.Which.{master, slave}
-use Rattle.serial.proofs.Cycles.{step_tx, waits}
+use Rattle.serial.proofs.Cycles.{on_word, step_tx, waits}
 use Rattle.serial.proofs.Exchange.Core.{Receiver, Side, Pair, plain, push, moved, with_engine, acted, master_side, slave_side, core_cycle}
 use Rattle.serial.proofs.Exchange.Turn.{given, turns, turn_pins, turn_lines, turn_twice, turn_pins_twice, step_plain, end_plain, lines_plain}
 use Rattle.serial.proofs.Exchange.Wiring.{Wiring}
@@ -35,13 +37,13 @@ use Rattle.frames.specs.declared.lines.Pins.{Pins}
 abbrev pub rx_of : Model → List ℕ → Receiver
 rx_of m log = record { held = m.rx; ror = m.ror; log = log }
 
-step_rx : (m : Model) (t c : Bool) (w : ℕ) (f : Bool) (log : List ℕ)
-    → rx_of (end_cycle (receive_if (take_if m t) c w) f) (log ++ pick c (w ∷ []) []) ≡ pick c (push w (rx_of m log)) (rx_of m log)
+step_rx : (m : Model) (t : Bool) (o : Option ℕ) (f : Bool) (log : List ℕ)
+    → rx_of (end_cycle (receive_if (take_if m t) o) f) (log ++ words_of o) ≡ on_word o (λ (w : ℕ). push w (rx_of m log)) (rx_of m log)
 unfolding end_cycle receive_if take_if receive_word take_word push
-step_rx m true true w f log = refl
-step_rx m true false w f log = ap (rx_of m) (append-nil log)
-step_rx m false true w f log = refl
-step_rx m false false w f log = ap (rx_of m) (append-nil log)
+step_rx m true (Some w) f log = refl
+step_rx m true None f log = ap (rx_of m) (append-nil log)
+step_rx m false (Some w) f log = refl
+step_rx m false None f log = ap (rx_of m) (append-nil log)
 
 -- The pair ----------------------------------------------------------------------------------------------------------------
 
@@ -108,7 +110,7 @@ abbrev stepped : Bool → List ℕ → DeviceModel → Settings → Step → Sid
 stepped q l d s r =
     record {
       tx = pick r.takes (rest d.registers.tx) d.registers.tx;
-      rx = pick r.complete (push r.word (rx_of d.registers l)) (rx_of d.registers l);
+      rx = on_word r.completed (λ (w : ℕ). push w (rx_of d.registers l)) (rx_of d.registers l);
       engine = end_of s r.engine;
       lines = turn_lines q (lines_of s r.engine);
     }
@@ -119,13 +121,13 @@ unfolding cycle_of completed_of
 side_cycle q l d x s r e a =
     let m = d.registers in
     ap₂ (λ (s : Settings) (r : Step). record {
-      tx = (end_cycle (receive_if (take_if m r.takes) r.complete r.word) (end_of s r.engine).frame).tx;
-      rx = rx_of (end_cycle (receive_if (take_if m r.takes) r.complete r.word) (end_of s r.engine).frame) (l ++ pick r.complete (r.word ∷ []) []);
+      tx = (end_cycle (receive_if (take_if m r.takes) r.completed) (end_of s r.engine).frame).tx;
+      rx = rx_of (end_cycle (receive_if (take_if m r.takes) r.completed) (end_of s r.engine).frame) (l ++ words_of r.completed);
       engine = end_of s r.engine;
       lines = turn_lines q (lines_of s r.engine);
     }) e a
     ∙ ap₂ (λ (t : List ℕ) (z : Receiver). record { tx = t; rx = z; engine = end_of s r.engine; lines = turn_lines q (lines_of s r.engine) })
-    (step_tx m r.takes r.complete r.word (end_of s r.engine).frame) (step_rx m r.takes r.complete r.word (end_of s r.engine).frame l)
+    (step_tx m r.takes r.completed (end_of s r.engine).frame) (step_rx m r.takes r.completed (end_of s r.engine).frame l)
 
 module _ {f : Format} {phase p : Bool} {b h k : ℕ} {o : Bool} (g : PairModel) (P : Paired f phase p b h k o g) (l j : List ℕ) where
   first_side : side_of (turns f p) (l ++ completed master g) (pair_cycle g).first ≡ master_side (plain f phase b h false) (side_of (turns f p) l g.first) (wire g.second.lines).rxd

@@ -7,6 +7,7 @@ use native.Mathlib.Omega.{arith}
 use lib.Dec.{eqb}
 use lib.ListN.{length}
 use borrow.Author.Tests.{ne_eqb, le-ltb, le-leb, lt-leb}
+use Rattle.std.specs.Prelude.{None}
 use Rattle.registers.specs.Choose.{pick}
 use Rattle.registers.specs.Time.{slots}
 use Rattle.registers.specs.Transfer.{rest}
@@ -86,7 +87,7 @@ module _ (phase : Bool) (b h : ℕ) where
   marking = with_mark cleared true
 
   slave_takes : (d r d' : Bool) (n : ℕ) → slave_step (plain Ti phase b h true) (with_mark cleared true) (wire (lined false true d r)) (wire (bit_lines true false d')) n
-      ≡ record { engine = sending 0 (shifted 0 (bit_of b n 0) n 0); takes = true; complete = false; word = 0 }
+      ≡ record { engine = sending 0 (shifted 0 (bit_of b n 0) n 0); takes = true; completed = None }
   unfolding slave_step ti_slave ti_rises wire started
   slave_takes d r d' n = refl
 
@@ -192,7 +193,7 @@ module _ (phase : Bool) (b h : ℕ) where
       (acted_by sm 2 (shifted c d w g) ws q _ _ false First (no_word (sending 2 x)) refl refl (lines_at_lem 2 x true (ti_levels_even false 2 0 refl)))
       (next_in sm 2 x ws q _ (omega arith))
       (slave_by ss (wire (lined false true d e)) (wire (bit_lines true false (bit_of b w 0))) (marked_at w (holding ws q vs r) c d g e).s
-      (record { engine = sending 0 x'; takes = true; complete = false; word = 0 }) (sending 0 x') (shown (bit_of b (front vs) 0)) (slave_takes d e (bit_of b w 0) (front vs)) (in_word x' l) refl)
+      (record { engine = sending 0 x'; takes = true; completed = None }) (sending 0 x') (shown (bit_of b (front vs) 0)) (slave_takes d e (bit_of b w 0) (front vs)) (in_word x' l) refl)
       (calm (rest vs) r (sending 0 x') _ _ true false (bit_of b w 0) false (in_word x' l) refl) refl)
 
   module _ (w v : ℕ) (k : Queues) (m : b ≤ 16) where
