@@ -12,9 +12,7 @@ use borrow.Author.Tests.{lt-ltb, ltb-true, ltb-false}
 use Rattle.std.specs.Prelude.{Option, Some, None, is_some}
 use Rattle.registers.specs.Choose.{pick}
 use Rattle.registers.specs.Model.{Model}
-use Rattle.registers.specs.Transfer.{added, dropped, take_word, lost_word, lost_words, end_cycle}
-use Rattle.registers.specs.declared.transfer.Lost.{Lost}
-use Rattle.registers.specs.declared.transfer.Lost.TheVariants.{Word, Nothing}
+use Rattle.registers.specs.Transfer.{added, dropped, take_word, lost_word, end_cycle}
 use Rattle.serial.specs.Cycle.{DeviceModel, take_if, lost_if, device_step, completed_of, kept_of, lost_of, cycle_of, after, words_in, completed_in, kept_in, lost_in}
 use Rattle.serial.specs.Lost.{last_from, losses_of, highest, noted, some, LostInCycle, LostInRun, Numbers}
 use Rattle.serial.specs.declared.lost.Losses.{Losses}
@@ -203,9 +201,9 @@ last_snoc v (x ∷ xs) w = last_snoc x xs w
 one_more_lem : (ws : List ℕ) (w : ℕ) → losses_of (ws ++ (w ∷ [])) ≡ record { count = length ws + 1; last = w }
 one_more_lem ws w = rw (length-append, last_snoc)
 
-noted-words : (ws : List ℕ) (x : Lost) → length ws < highest → noted (losses_of ws) x ≡ losses_of (ws ++ lost_words x)
-noted-words ws (Word w) h = rw (lt-ltb (length ws) highest h) (sym (one_more_lem ws w))
-noted-words ws Nothing h = ap losses_of (sym (append-nil ws))
+noted-words : (ws : List ℕ) (x : Option ℕ) → length ws < highest → noted (losses_of ws) x ≡ losses_of (ws ++ words_of x)
+noted-words ws (Some w) h = rw (lt-ltb (length ws) highest h) (sym (one_more_lem ws w))
+noted-words ws None h = ap losses_of (sym (append-nil ws))
 
 some_counted : (ws : List ℕ) → some ws ≡ not (eqb (losses_of ws).count 0)
 some_counted [] = refl
@@ -224,14 +222,14 @@ pub record Noting (ws : List ℕ) (l : Losses) (i : ℕ) : Type 0 where
 pub noting_begin : (l : Losses) → l ≡ losses_of [] → Noting [] l 0
 noting_begin l e = record { tally = e; most = omega arith }
 
-word_most : (x : Lost) → length (lost_words x) ≤ 1
-word_most (Word w) = omega arith
-word_most Nothing = omega arith
+word_most : (x : Option ℕ) → length (words_of x) ≤ 1
+word_most (Some w) = omega arith
+word_most None = omega arith
 
-pub noting_turn : (ws ws' new : List ℕ) (l l' : Losses) (i : ℕ) (x : Lost) → Noting ws l i → i < highest → l' ≡ noted l x → lost_words x ≡ new → ws' ≡ ws ++ new → Noting ws' l' (i + 1)
+pub noting_turn : (ws ws' new : List ℕ) (l l' : Losses) (i : ℕ) (x : Option ℕ) → Noting ws l i → i < highest → l' ≡ noted l x → words_of x ≡ new → ws' ≡ ws ++ new → Noting ws' l' (i + 1)
 noting_turn ws ws' new l l' i x n h e f g =
-    let s : ws' ≡ ws ++ lost_words x = g ∙ ap (λ (t : List ℕ). ws ++ t) (sym f) in
+    let s : ws' ≡ ws ++ words_of x = g ∙ ap (λ (t : List ℕ). ws ++ t) (sym f) in
     record {
       tally = e ∙ ap (λ (t : Losses). noted t x) n.tally ∙ noted-words ws x (let m = n.most in omega arith) ∙ ap losses_of (sym s);
-      most = let a = length-append ws (lost_words x) in let b = word_most x in let m = n.most in rw s (omega arith);
+      most = let a = length-append ws (words_of x) in let b = word_most x in let m = n.most in rw s (omega arith);
     }

@@ -5,8 +5,7 @@ use mathlib.Core.List.{List, [], ◌∷◌, ◌++◌, append-nil}
 use native.Mathlib.Nat.{zero-add, suc-add}
 use native.Mathlib.Numerals.{add-one}
 use lib.ListN.{length, drop}
-use Rattle.registers.specs.Transfer.{lost_words}
-use Rattle.registers.specs.declared.transfer.Lost.{Lost}
+use Rattle.registers.specs.Choose.{words_of}
 use Rattle.serial.specs.Cycle.{DeviceModel, device_of, completed_of, lost_of, cycle_of, CycleOf, not_run, after, completed_in, lost_in}
 use Rattle.serial.specs.Lost.{losses_of, highest, noted}
 use Rattle.serial.specs.Pair.{wire, PairModel, pair_cycle, pair_run, swapped, pins_read, pair_lost, pair_of, PairRun, PairRunIsRun}
@@ -83,8 +82,8 @@ pub record Pairing (p q : PairModel) (l m : Losses) (i : ℕ) : Type 0 where
 pub pairing_begin : (p : PairModel) (l m : Losses) → l ≡ losses_of [] → m ≡ losses_of [] → Pairing p p l m 0
 pairing_begin p l m e f = record { pair = refl; first = noting_begin l e; second = noting_begin m f }
 
-turn : (p q q' : PairModel) (l m l' m' : Losses) (i : ℕ) (x y : Lost) → Pairing p q l m i → i < highest → q' ≡ pair_cycle q
-    → lost_words x ≡ lost_of q.first (wire q.second.lines) → lost_words y ≡ lost_of q.second (wire q.first.lines) → l' ≡ noted l x → m' ≡ noted m y
+turn : (p q q' : PairModel) (l m l' m' : Losses) (i : ℕ) (x y : Option ℕ) → Pairing p q l m i → i < highest → q' ≡ pair_cycle q
+    → words_of x ≡ lost_of q.first (wire q.second.lines) → words_of y ≡ lost_of q.second (wire q.first.lines) → l' ≡ noted l x → m' ≡ noted m y
     → Pairing p q' l' m' (i + 1)
 turn p q q' l m l' m' i x y r h e f g j k =
     let s : swapped q ≡ pair_run i (swapped p) = ap swapped r.pair ∙ sym (swap_run i p) in

@@ -5,12 +5,10 @@ use Rattle.registers.specs.Offsets.{register_of}
 use Rattle.registers.specs.Settings.{enabled_of, settings_of}
 use Rattle.registers.specs.Access.{read_answer, read_model, write_refusal, write_model}
 use Rattle.registers.specs.Model.{Model}
-use Rattle.registers.specs.declared.access.Answer.{Answer}
+use Rattle.registers.specs.Refusals.{Answer}
 use Rattle.frames.specs.Engine.{while_active}
-use Rattle.serial.specs.Cycle.{DeviceModel, device_of, active_device, with_registers, with_engine}
+use Rattle.serial.specs.Cycle.{DeviceModel, active_device, with_registers, with_engine}
 use Rattle.frames.specs.declared.engine.Engine.{Engine}
-use Rattle.serial.specs.declared.access.Reading.{Reading}
-use Rattle.serial.specs.declared.access.Written.{Written}
 
 -- What a read answers; for BSY the engine says whether a frame is in progress.
 unfoldable pub read_answer_of : DeviceModel → ℕ → Answer
@@ -36,11 +34,11 @@ write_device d o v =
     with_engine (with_registers d m) (engine_after d.registers m d.engine)
 
 -- A read: its answer, and the device after it.
-pub record Read (d : DeviceModel) (o : ℕ) (r : Reading) : Type 0 where
-  pub answer : r.answer ≡ read_answer_of d o
-  pub device : device_of r.device ≡ read_device d o
+pub record Read (d : DeviceModel) (o : ℕ) (r : Answer) (d' : DeviceModel) : Type 0 where
+  pub answer : r ≡ read_answer_of d o
+  pub device : d' ≡ read_device d o
 
 -- A write: its refusal number, and the device after it.
-pub record Write (d : DeviceModel) (o v : ℕ) (r : Written) : Type 0 where
-  pub refusal : r.refusal ≡ write_refusal_of d o v
-  pub device : device_of r.device ≡ write_device d o v
+pub record Write (d : DeviceModel) (o v r : ℕ) (d' : DeviceModel) : Type 0 where
+  pub refusal : r ≡ write_refusal_of d o v
+  pub device : d' ≡ write_device d o v

@@ -1,19 +1,16 @@
 -- A device, and one cycle of it.
 use Rattle.std.specs.Prelude.{ℕ, ◌≡◌, Bool, true, false, List, [], ◌∷◌, ◌++◌, Option, Some, None, map, ltb, length}
-use Rattle.registers.specs.Choose.{pick}
+use Rattle.registers.specs.Choose.{pick, words_of}
 use Rattle.registers.specs.Model.{Model, model_of, reset_registers}
 use Rattle.registers.specs.Settings.{settings_of}
-use Rattle.registers.specs.Transfer.{waiting_of, next_word, take_word, receive_word, lost_word, lost_words, end_cycle}
+use Rattle.registers.specs.Transfer.{waiting_of, next_word, take_word, receive_word, lost_word, end_cycle}
 use Rattle.registers.specs.declared.settings.Settings.{Settings}
-use Rattle.registers.specs.declared.transfer.Lost.TheVariants.{Nothing}
-use Rattle.registers.specs.declared.transfer.Received.{Received}
-use Rattle.frames.specs.Engine.{active_of, cleared, while_active, words_of, no_word}
+use Rattle.frames.specs.Engine.{active_of, cleared, while_active, no_word}
 use Rattle.frames.specs.Lines.{lines_of}
 use Rattle.frames.specs.Master.{master_step, master_end}
 use Rattle.serial.specs.Slave.{slave_step, slave_end}
 use Rattle.serial.specs.declared.Device.{Device}
 use Rattle.serial.specs.declared.History.{History}
-use Rattle.serial.specs.declared.cycle.Cycled.{Cycled}
 use Rattle.frames.specs.declared.engine.Engine.{Engine}
 use Rattle.frames.specs.declared.engine.Step.{Step}
 use Rattle.frames.specs.declared.lines.Lines.{Lines}
@@ -87,10 +84,10 @@ abbrev pub lost_if : Model → Option ℕ → List ℕ
 lost_if m None = []
 lost_if m (Some w) = lost_word m w
 
--- What the code gives for this: the register file, and the words lost.
-pub record ReceiveIf (m : Model) (completed : Option ℕ) (r : Received) : Type 0 where
-  pub registers : model_of r.registers ≡ receive_if m completed
-  pub lost : lost_words r.lost ≡ lost_if m completed
+-- What the code gives for this: the words lost, and the register file after it.
+pub record ReceiveIf (m : Model) (completed : Option ℕ) (lost : List ℕ) (m' : Model) : Type 0 where
+  pub registers : m' ≡ receive_if m completed
+  pub lost : lost ≡ lost_if m completed
 
 -- The register file after a step.
 abbrev pub step_model : Model → Step → Model
@@ -132,14 +129,10 @@ cycle_of d pins =
       lines = lines_of s r.engine;
     }
 
--- What the code gives for a cycle: the device after it, and the words lost in it.
-pub record CycleOf (d : DeviceModel) (pins : Pins) (r : Cycled) : Type 0 where
-  pub device : device_of r.device ≡ cycle_of d pins
-  pub lost : lost_words r.lost ≡ lost_of d pins
-
--- A device before the first cycle of a run: no word is lost yet.
-abbrev pub not_run : Device → Cycled
-not_run d = record { device = d; lost = Nothing }
+-- What the code gives for a cycle: the word lost in it, if any, and the device after it.
+pub record CycleOf (d : DeviceModel) (pins : Pins) (lost : Option ℕ) (d' : DeviceModel) : Type 0 where
+  pub device : d' ≡ cycle_of d pins
+  pub lost : words_of lost ≡ lost_of d pins
 
 -- A run: one cycle for each entry of a list of pins; it gives the device after each cycle.
 abbrev pub run : DeviceModel → List Pins → List DeviceModel

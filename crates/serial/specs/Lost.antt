@@ -1,9 +1,6 @@
 -- The words lost to overrun, as a run hands them up: how many, and the last one.
-use Rattle.std.specs.Prelude.{ℕ, ◌+◌, ◌-◌, ◌≤◌, ◌<◌, ◌≡◌, Bool, true, false, not, ◌||◌, List, [], ◌∷◌, ◌++◌, ltb, eqb, length, take, drop}
-use Rattle.registers.specs.Choose.{pick}
-use Rattle.registers.specs.Transfer.{lost_words}
-use Rattle.registers.specs.declared.transfer.Lost.{Lost}
-use Rattle.registers.specs.declared.transfer.Lost.TheVariants.{Word, Nothing}
+use Rattle.std.specs.Prelude.{ℕ, ◌+◌, ◌-◌, ◌≤◌, ◌<◌, ◌≡◌, Bool, true, false, not, ◌||◌, List, [], ◌∷◌, ◌++◌, ltb, eqb, length, take, drop, Option, None, Some}
+use Rattle.registers.specs.Choose.{pick, words_of}
 use Rattle.serial.specs.Cycle.{DeviceModel, completed_of, kept_of, lost_of, cycle_of, after, completed_in, kept_in, lost_in}
 use Rattle.serial.specs.declared.lost.Losses.{Losses}
 use Rattle.frames.specs.declared.lines.Pins.{Pins}
@@ -26,9 +23,9 @@ abbrev pub highest : ℕ
 highest = 0xFFFFFFFFFFFFFFFF
 
 -- The losses so far with those of one more cycle. The highest count stays.
-abbrev pub noted : Losses → Lost → Losses
-noted l Nothing = l
-noted l (Word w) = record { count = pick (ltb l.count highest) (l.count + 1) l.count; last = w }
+abbrev pub noted : Losses → Option ℕ → Losses
+noted l None = l
+noted l (Some w) = record { count = pick (ltb l.count highest) (l.count + 1) l.count; last = w }
 
 -- What holds for them ------------------------------------------------------------------------------------------------------
 
@@ -63,4 +60,4 @@ pub record Numbers : Type 0 where
   pub none : losses_of [] ≡ record { count = 0; last = 0 }
   pub more : (ws : List ℕ) (w : ℕ) → losses_of (ws ++ (w ∷ [])) ≡ record { count = length ws + 1; last = w }
   pub counted : (ws : List ℕ) → some ws ≡ not (eqb (losses_of ws).count 0)
-  pub noting : (ws : List ℕ) (x : Lost) → length ws < highest → noted (losses_of ws) x ≡ losses_of (ws ++ lost_words x)
+  pub noting : (ws : List ℕ) (x : Option ℕ) → length ws < highest → noted (losses_of ws) x ≡ losses_of (ws ++ words_of x)

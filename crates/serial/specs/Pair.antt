@@ -3,7 +3,7 @@ use Rattle.std.specs.Prelude.{ℕ, zero, suc, ◌+◌, ◌≡◌, not, ◌&&◌,
 use Rattle.serial.specs.Cycle.{DeviceModel, device_of, cycle_of, after, lost_in}
 use Rattle.serial.specs.Lost.{losses_of}
 use Rattle.serial.specs.declared.pair.Wired.{Wired}
-use Rattle.serial.specs.declared.pair.PairRan.{PairRan}
+use Rattle.serial.specs.declared.pair.PairLosses.{PairLosses}
 use Rattle.frames.specs.declared.lines.Lines.{Lines}
 use Rattle.frames.specs.declared.lines.Pins.{Pins}
 
@@ -44,8 +44,8 @@ unfoldable pub pair_of : Wired → PairModel
 pair_of w = record { first = device_of w.first; second = device_of w.second }
 
 -- A pair run: the pair after n cycles, and what each device lost in them.
-pub record PairRun (n : ℕ) (p : PairModel) (r : PairRan) : Type 0 where
-  pub pair : pair_of r.pair ≡ pair_run n p
+pub record PairRun (n : ℕ) (p : PairModel) (r : PairLosses) (p' : PairModel) : Type 0 where
+  pub pair : p' ≡ pair_run n p
   pub first : r.first ≡ losses_of (pair_lost n p)
   pub second : r.second ≡ losses_of (pair_lost n (swapped p))
 

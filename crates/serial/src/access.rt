@@ -1,52 +1,32 @@
 // Register accesses to a device. They fall between cycles: pins and lines stay.
 ghost use Rattle.std.specs.Prelude.{◌≡◌};
+ghost use Rattle.registers.specs.Refusals.{answer_of, refusal_number};
 ghost use Rattle.serial.specs.Cycle.{device_of};
 ghost use Rattle.serial.specs.Access.{Read, Write};
 
 use crate::Device;
-use registers::access::Answer;
+use registers::refusals::Refusal;
 
-#[derive(Clone, Copy)]
-pub struct Reading {
-    pub answer: Answer,
-    pub device: Device,
-}
-
-#[derive(Clone, Copy)]
-pub struct Written {
-    pub refusal: u8,
-    pub device: Device,
-}
-
-// A register read.
-pub fn read(d: Device, offset: u32) -> Reading
-    ensures { Read (device_of d) offset result }
-{
-    let out = registers::access::read(d.registers, offset, d.engine.frame);
-    let registers = out.registers;
-    let answer = out.answer;
-    let mut device = d;
-    device.registers = registers;
-    Reading { answer, device }
-}
-
-// A register write. Clearing SSE clears the engine, unless in edition 2 a frame is in progress.
-pub fn write(d: Device, offset: u32, value: u32) -> Written
-    ensures { Write (device_of d) offset value result }
-{
-    let was = registers::settings::enabled(d.registers);
-    let s = registers::settings::settings_of(d.registers);
-    let active = frames::engine::active_of(s, d.engine);
-    let out = registers::access::write(d.registers, active, offset, value);
-    let registers = out.registers;
-    let after = registers::settings::settings_of(registers);
-    let mut device = d;
-    device.registers = registers;
-    if was {
-        device.engine = frames::engine::while_active(after, d.engine);
+impl Device {
+    // A register read.
+    pub fn read(&mut self, offset: u32) -> Result<u16, Refusal>
+        ensures { Read (device_of self.old) offset (answer_of result) (device_of self.new) }
+    {
+        let frame = self.engine.frame;
+        self.registers.read(offset, frame)
     }
-    Written {
-        refusal: out.refusal,
-        device,
+
+    // A register write. Clearing SSE clears the engine, unless in edition 2 a frame is in progress.
+    pub fn write(&mut self, offset: u32, value: u32) -> Result<(), Refusal>
+        ensures { Write (device_of self.old) offset value (refusal_number result) (device_of self.new) }
+    {
+        let was = self.registers.enabled();
+        let active = self.engine.active(self.registers.settings());
+        self.registers.write(active, offset, value)?;
+        if was {
+            let after = self.registers.settings();
+            self.engine = self.engine.while_active(after);
+        }
+        Ok(())
     }
 }

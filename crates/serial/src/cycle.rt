@@ -1,47 +1,54 @@
 // One cycle of a device.
 ghost use Rattle.std.specs.Prelude.{◌≡◌};
+ghost use Rattle.registers.specs.Choose.{words_of};
 ghost use Rattle.registers.specs.Model.{model_of};
-ghost use Rattle.serial.specs.Cycle.{device_of, step_of, tick_of, end_of, take_if, ReceiveIf, CycleOf, not_run};
+ghost use Rattle.serial.specs.Cycle.{device_of, step_of, tick_of, end_of, take_if, ReceiveIf, CycleOf, follow};
 
+use crate::slave::{Seen, slave_end, slave_step};
 use crate::{Device, History};
 use frames::engine::{Engine, Step};
-use frames::lines::Pins;
+use frames::lines::{Pins, lines_of};
+use frames::master::{master_end, master_step};
 use registers::Registers;
 use registers::settings::Settings;
-use registers::transfer::{Lost, Received};
 
-// The result of a cycle: the device, and the word lost in it, or none.
-#[derive(Clone, Copy)]
-pub struct Cycled {
-    pub device: Device,
-    pub lost: Lost,
+impl History {
+    // The pins of the last three cycles, this one included.
+    fn follow(self, pins: Pins) -> History
+        ensures { result ≡ follow self pins }
+    {
+        History {
+            newest: pins,
+            middle: self.newest,
+            oldest: self.middle,
+        }
+    }
 }
 
 fn step_of(s: Settings, e: Engine, h: History, pins: Pins, waiting: bool, next: u16) -> Step
     ensures { result ≡ step_of s e h pins waiting next }
 {
-    let active = frames::engine::active_of(s, e);
-    let slave = s.slave;
-    if active {
-        if slave {
-            let before = h.oldest;
-            let seen = h.middle;
-            return crate::slave::slave_step(s, e, before, seen, next);
-        }
-        return frames::master::master_step(s, e, waiting, next, pins.rxd);
+    if !e.active(s) {
+        return Step::no_word(Engine::cleared());
     }
-    frames::engine::no_word(frames::engine::cleared())
+    if s.slave {
+        let seen = Seen {
+            before: h.oldest,
+            now: h.middle,
+        };
+        return slave_step(s, e, seen, next);
+    }
+    master_step(s, e, waiting, next, pins.rxd)
 }
 
 // The end of a cycle: a master counts the cycle in its slot, a slave's last capture ends its frame.
 fn tick_of(s: Settings, e: Engine) -> Engine
     ensures { result ≡ tick_of s e }
 {
-    let slave = s.slave;
-    if slave {
-        crate::slave::slave_end(s, e)
+    if s.slave {
+        slave_end(s, e)
     } else {
-        frames::master::master_end(s, e)
+        master_end(s, e)
     }
 }
 
@@ -49,72 +56,41 @@ fn tick_of(s: Settings, e: Engine) -> Engine
 fn end_of(s: Settings, e: Engine) -> Engine
     ensures { result ≡ end_of s e }
 {
-    let after = tick_of(s, e);
-    frames::engine::while_active(s, after)
+    tick_of(s, e).while_active(s)
 }
 
-fn take_if(r: Registers, takes: bool) -> Registers
-    ensures { model_of result ≡ take_if (model_of r) takes }
+fn take_if(r: &mut Registers, takes: bool)
+    ensures { model_of r.new ≡ take_if (model_of r.old) takes }
 {
     if takes {
-        registers::transfer::take_word(r)
-    } else {
-        r
+        r.take_word();
     }
 }
 
-fn receive_if(r: Registers, completed: Option<u16>) -> Received
-    ensures { ReceiveIf (model_of r) completed result }
+fn receive_if(r: &mut Registers, completed: Option<u16>) -> Option<u16>
+    ensures { ReceiveIf (model_of r.old) completed (words_of result) (model_of r.new) }
 {
     match completed {
-        Some(word) => registers::transfer::receive_word(r, word),
-        None => Received {
-            lost: Lost::Nothing,
-            registers: r,
-        },
+        Some(word) => r.receive_word(word),
+        None => None,
     }
 }
 
-// One cycle: the engine's step, the queues, the timeout, the pins and the lines.
-pub fn cycle_of(d: Device, pins: Pins) -> Cycled
-    ensures { CycleOf (device_of d) pins result }
-{
-    let r = d.registers;
-    let e = d.engine;
-    let h = d.pins;
-    let s = registers::settings::settings_of(r);
-    let waiting = registers::transfer::waiting_of(r);
-    let next = registers::transfer::next_word(r);
-    let step = step_of(s, e, h, pins, waiting, next);
-    let shown = step.engine;
-    let lines = frames::lines::lines_of(s, shown);
-    let after = end_of(s, shown);
-    let without = take_if(r, step.takes);
-    let received = receive_if(without, step.completed);
-    let lost = received.lost;
-    let with = received.registers;
-    let ended = registers::transfer::end_cycle(with, after.frame);
-    let newest = h.newest;
-    let middle = h.middle;
-    let device = Device {
-        registers: ended,
-        engine: after,
-        pins: History {
-            newest: pins,
-            middle: newest,
-            oldest: middle,
-        },
-        lines,
-    };
-    Cycled { device, lost }
-}
-
-// A device before the first cycle of a run. A loop keeps its `Cycled` from turn to turn, so that no device is copied.
-pub fn not_run(d: Device) -> Cycled
-    ensures { result ≡ not_run d }
-{
-    Cycled {
-        device: d,
-        lost: Lost::Nothing,
+impl Device {
+    // One cycle: the engine's step, the queues, the timeout, the pins and the lines. It answers with the word lost, if any.
+    pub fn cycle(&mut self, pins: Pins) -> Option<u16>
+        ensures { CycleOf (device_of self.old) pins result (device_of self.new) }
+    {
+        let s = self.registers.settings();
+        let waiting = self.registers.waiting();
+        let next = self.registers.next_word();
+        let step = step_of(s, self.engine, self.pins, pins, waiting, next);
+        self.lines = lines_of(s, step.engine);
+        self.engine = end_of(s, step.engine);
+        take_if(&mut self.registers, step.takes);
+        let lost = receive_if(&mut self.registers, step.completed);
+        self.registers.end_cycle(self.engine.frame);
+        self.pins = self.pins.follow(pins);
+        lost
     }
 }

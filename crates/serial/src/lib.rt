@@ -40,28 +40,30 @@ pub struct Device {
     pub lines: Lines,
 }
 
-// A device after reset, of the edition asked for.
-pub fn reset_device(edition2: bool) -> Device
-    ensures { device_of result ≡ reset_device edition2 }
-{
-    let low = Pins {
-        clk: false,
-        fss: false,
-        rxd: false,
-    };
-    Device {
-        registers: registers::reset_registers(edition2),
-        engine: frames::engine::cleared(),
-        pins: History {
-            newest: low,
-            middle: low,
-            oldest: low,
-        },
-        lines: Lines {
+impl Device {
+    // A device after reset, of the edition asked for.
+    pub fn reset(edition2: bool) -> Device
+        ensures { device_of result ≡ reset_device edition2 }
+    {
+        let low = Pins {
             clk: false,
-            fss: true,
-            txd: false,
-            released: true,
-        },
+            fss: false,
+            rxd: false,
+        };
+        Device {
+            registers: Registers::reset(edition2),
+            engine: Engine::cleared(),
+            pins: History {
+                newest: low,
+                middle: low,
+                oldest: low,
+            },
+            lines: Lines {
+                clk: false,
+                fss: true,
+                txd: false,
+                released: true,
+            },
+        }
     }
 }

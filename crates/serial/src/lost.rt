@@ -2,8 +2,6 @@
 ghost use Rattle.std.specs.Prelude.{◌≡◌};
 ghost use Rattle.serial.specs.Lost.{none_lost, noted};
 
-use registers::transfer::Lost;
-
 // How many words were lost, and the last of them, 0 if none.
 #[derive(Clone, Copy)]
 pub struct Losses {
@@ -12,27 +10,21 @@ pub struct Losses {
     pub last: u64,
 }
 
-// The highest count.
-const HIGHEST: u64 = 0xFFFF_FFFF_FFFF_FFFF;
+impl Losses {
+    // No word was lost.
+    pub fn none() -> Losses
+        ensures { result ≡ none_lost }
+    {
+        Losses { count: 0, last: 0 }
+    }
 
-// No word was lost.
-pub fn none_lost() -> Losses
-    ensures { result ≡ none_lost }
-{
-    Losses { count: 0, last: 0 }
-}
-
-// The losses so far with those of one more cycle.
-pub fn noted(l: Losses, lost: Lost) -> Losses
-    ensures { result ≡ noted l lost }
-{
-    let n = l.count;
-    match lost {
-        Lost::Nothing => l,
-        Lost::Word(w) => {
-            let last = w as u64;
-            let count = if n < HIGHEST { n + 1 } else { n };
-            Losses { count, last }
+    // The losses so far with those of one more cycle.
+    pub fn note(&mut self, lost: Option<u16>)
+        ensures { self.new ≡ noted self.old lost }
+    {
+        if let Some(word) = lost {
+            self.count = self.count.saturating_add(1);
+            self.last = u64::from(word);
         }
     }
 }

@@ -12,12 +12,11 @@ pub struct Wired {
     pub second: Device,
 }
 
-// The result of a pair run: what each device lost in it, and the pair.
+// What each device of a pair lost in a run.
 #[derive(Clone, Copy)]
-pub struct PairRan {
+pub struct PairLosses {
     pub first: Losses,
     pub second: Losses,
-    pub pair: Wired,
 }
 
 // What the other device's pins read; a released TXD reads LOW.
@@ -31,35 +30,19 @@ pub fn wire(l: Lines) -> Pins
     }
 }
 
-// A number of pair cycles: the pins of each device are the lines of the other in the cycle before.
-pub fn pair_run(p: Wired, cycles: u64) -> PairRan
-    ensures { PairRun cycles (pair_of p) result }
-{
-    let mut first = crate::cycle::not_run(p.first);
-    let mut second = crate::cycle::not_run(p.second);
-    let mut first_lost = crate::lost::none_lost();
-    let mut second_lost = crate::lost::none_lost();
-    let mut i: u64 = 0;
-    while i < cycles {
-        let to_second = wire(first.device.lines);
-        let to_first = wire(second.device.lines);
-        first = crate::cycle::cycle_of(first.device, to_first);
-        second = crate::cycle::cycle_of(second.device, to_second);
-        let one = first.lost;
-        let two = second.lost;
-        first_lost = crate::lost::noted(first_lost, one);
-        second_lost = crate::lost::noted(second_lost, two);
-        i = i + 1;
-    }
-    let first_device = first.device;
-    let second_device = second.device;
-    let pair = Wired {
-        first: first_device,
-        second: second_device,
-    };
-    PairRan {
-        first: first_lost,
-        second: second_lost,
-        pair,
+impl Wired {
+    // A number of pair cycles: the pins of each device are the lines of the other in the cycle before.
+    pub fn run(&mut self, cycles: u64) -> PairLosses
+        ensures { PairRun cycles (pair_of self.old) result (pair_of self.new) }
+    {
+        let mut first = Losses::none();
+        let mut second = Losses::none();
+        for _ in 0..cycles {
+            let to_second = wire(self.first.lines);
+            let to_first = wire(self.second.lines);
+            first.note(self.first.cycle(to_first));
+            second.note(self.second.cycle(to_second));
+        }
+        PairLosses { first, second }
     }
 }

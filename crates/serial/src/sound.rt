@@ -5,6 +5,7 @@ ghost use Rattle.serial.specs.Sound.{stopped_sound, running_sound, engine_sound,
 
 use crate::Device;
 use frames::engine::Engine;
+use frames::slots::{capture_width, last_slot};
 use registers::settings::Settings;
 
 // While the engine is not active: no frame, no selection, no TI mark; slot, elapsed cycles and captured bits are 0.
@@ -19,31 +20,29 @@ fn stopped_sound(e: Engine) -> bool
 fn running_sound(s: Settings, e: Engine) -> bool
     ensures { result ≡ running_sound s e }
 {
-    let last = frames::slots::last_slot(s).0;
+    let last = last_slot(s).0;
     ((e.slot.0 <= last) & (e.elapsed.0 < s.divisor.0 as u32))
-        & (e.shift.captured <= frames::slots::capture_width(s))
+        & (e.shift.captured <= capture_width(s))
 }
 
 fn engine_sound(s: Settings, e: Engine) -> bool
     ensures { result ≡ engine_sound s e }
 {
-    let active = frames::engine::active_of(s, e);
-    if active {
+    if e.active(s) {
         running_sound(s, e)
     } else {
         stopped_sound(e)
     }
 }
 
-// Whether the register file and the engine are sound.
-pub fn sound_device(d: Device) -> bool
-    ensures { result ≡ sound_device (device_of d) }
-{
-    let file = d.registers;
-    let e = d.engine;
-    let s = registers::settings::settings_of(file);
-    let active = frames::engine::active_of(s, e);
-    let kept = registers::sound::sound_registers(file, active);
-    let runs = engine_sound(s, e);
-    kept & runs
+impl Device {
+    // Whether the register file and the engine are sound.
+    pub fn sound(&self) -> bool
+        ensures { result ≡ sound_device (device_of self.now) }
+    {
+        let s = self.registers.settings();
+        let kept = self.registers.sound(self.engine.active(s));
+        let runs = engine_sound(s, self.engine);
+        kept & runs
+    }
 }
