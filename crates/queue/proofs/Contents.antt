@@ -1,5 +1,5 @@
 -- The laws of a queue's contents, on the values that the code makes. `long` says that the array has its eight places.
-use Prim.Native.Nat.{ℕ, zero, suc, ◌+◌, ◌-◌, ◌≤◌, ◌<◌}
+use Prim.Native.Nat.{ℕ, zero, suc, ◌+◌, ◌-◌, ◌≤◌, ◌<◌, min}
 use mathlib.Core.Path.{◌≡◌, refl, sym, ap, ◌∙◌}
 use mathlib.Core.List.{List, [], ◌∷◌, ◌++◌}
 use native.Mathlib.Omega.{arith}
@@ -7,12 +7,13 @@ use native.Mathlib.Numerals.{add-one}
 use native.Mathlib.Decide.{dec_lt}
 use lib.ListN.{length, get_or, take, drop, set, length-take, length-drop, drop_of_length-le, get_or-eq_default, replicate}
 use lib.Seq.{length-take-le, take_all, take-suc-set, get_or-set_other, get_or-take, drop-cons, take-append-le, get_or-drop}
-use borrow.Author.Tests.{lt-ltb, le-ltb}
+use Rattle.std.specs.List.{copy_within}
+use Rattle.std.proofs.lemmas.List.{set_at}
+use borrow.Author.Tests.{lt-ltb}
 use Rattle.queue.specs.declared.Queue.{Queue}
-use Rattle.queue.specs.declared.Oldest.TheVariants.{Word, Nothing}
-use Rattle.queue.specs.declared.Dropped.{Dropped}
+use Rattle.std.specs.Prelude.{Some, None}
 use Rattle.queue.specs.Fifo.Inside.{contents_of, clean_intro, clean_elim}
-use Rattle.queue.specs.Fifo.{contents, used_word, added, dropped, Empty, Add, TakeOldest, Restored}
+use Rattle.queue.specs.Fifo.{contents, added, dropped, Empty, Count, Add, TakeOldest, Restored}
 
 -- the count
 
@@ -21,6 +22,9 @@ count_below q long h = rw (contents_of q) (length-take-le q.count q.words (omega
 
 pub count_full : (q : Queue) → length q.words ≡ 8 → 8 ≤ q.count → length (contents q) ≡ 8
 count_full q long h = rw (contents_of q, take_all q.count q.words (omega arith)) long
+
+pub count_holds : (q : Queue) (n : ℕ) → length q.words ≡ 8 → n ≡ min q.count 8 → Count q n
+count_holds q n long e = record { count = e ∙ rw (contents_of q, length-take, long); most = omega arith }
 
 -- an empty queue
 
@@ -35,7 +39,7 @@ empty_holds = record { holds = contents_of _; clean = clean_intro _ (λ i h. zer
 
 -- adding a word
 
-pub added_full : (q : Queue) (w : ℕ) → length q.words ≡ 8 → 8 ≤ q.count → Add q w (record { dropped = Dropped.Word w; queue = q })
+pub added_full : (q : Queue) (w : ℕ) → length q.words ≡ 8 → 8 ≤ q.count → Add q w (Some w) q
 unfolding added dropped
 added_full q w long h =
     record {
@@ -44,7 +48,7 @@ added_full q w long h =
       clean = λ c. c;
     }
 
-pub added_room : (q : Queue) (w : ℕ) → length q.words ≡ 8 → q.count < 8 → Add q w (record { dropped = Dropped.Nothing; queue = record { words = set q.words q.count w; count = q.count + 1 } })
+pub added_room : (q : Queue) (w : ℕ) → length q.words ≡ 8 → q.count < 8 → Add q w None (record { words = set q.words q.count w; count = q.count + 1 })
 unfolding added dropped
 added_room q w long h =
     record {
@@ -55,17 +59,18 @@ added_room q w long h =
 
 -- taking the oldest word
 
-pub taken_none : (q : Queue) → length (contents q) ≡ 0 → TakeOldest q (record { oldest = Nothing; queue = q })
+pub taken_none : (q : Queue) → length (contents q) ≡ 0 → TakeOldest q None q
 taken_none q e = go (contents q) refl e
   where
-    go : (xs : List ℕ) → contents q ≡ xs → length xs ≡ 0 → TakeOldest q (record { oldest = Nothing; queue = q })
+    go : (xs : List ℕ) → contents q ≡ xs → length xs ≡ 0 → TakeOldest q None q
     go [] h e = record { word = rw h; holds = rw h; clean = λ c. c }
     go (x ∷ xs) h e = absurd (omega arith)
 
 -- the eight places after the oldest word went
-pub shifted : (l : List ℕ) → length l ≡ 8 → ◌≡◌ {A = List ℕ} (get_or l 1 0 ∷ get_or l 2 0 ∷ get_or l 3 0 ∷ get_or l 4 0 ∷ get_or l 5 0 ∷ get_or l 6 0 ∷ get_or l 7 0 ∷ 0 ∷ []) (drop 1 l ++ (0 ∷ []))
-shifted l long =
-    rw (drop-cons l 1 0 (omega arith), drop-cons l 2 0 (omega arith), drop-cons l 3 0 (omega arith), drop-cons l 4 0 (omega arith), drop-cons l 5 0 (omega arith), drop-cons l 6 0 (omega arith), drop-cons l 7 0 (omega arith), drop_of_length-le l {i = 8} (omega arith))
+pub shifted : (l m : List ℕ) → length l ≡ 8 → m ≡ copy_within l 1 (length l) 0 → set m 7 0 ≡ drop 1 l ++ (0 ∷ [])
+shifted [] m long h = absurd (omega arith)
+shifted (x ∷ l) m long h =
+    rw (h, long, take_all 7 l (omega arith), drop-cons (x ∷ l) 7 0 (omega arith), drop_of_length-le (x ∷ l) {i = 8} (omega arith)) (set_at l _ [] 0 7 (omega arith))
 
 pad : (l : List ℕ) (i : ℕ) → get_or (l ++ (0 ∷ [])) i 0 ≡ get_or l i 0
 pad [] zero = refl
@@ -93,7 +98,7 @@ past_end l k n i long e h c = go (dec_lt i k)
     go (yes p) = get_or-eq_default l 0 {n = i} (let m = length-take k l in omega arith)
     go (no p) = c i (omega arith)
 
-pub taken_some : (q : Queue) (ws : List ℕ) (n : ℕ) → length q.words ≡ 8 → n ≡ length (contents q) → (n ≡ 0 → ⊥) → ws ≡ drop 1 q.words ++ (0 ∷ []) → TakeOldest q (record { oldest = Word (get_or q.words 0 0); queue = record { words = ws; count = n - 1 } })
+pub taken_some : (q : Queue) (ws : List ℕ) (n : ℕ) → length q.words ≡ 8 → n ≡ length (contents q) → (n ≡ 0 → ⊥) → ws ≡ drop 1 q.words ++ (0 ∷ []) → TakeOldest q (Some (get_or q.words 0 0)) (record { words = ws; count = n - 1 })
 taken_some q ws n long e z s =
     let k : n ≡ length (take q.count q.words) = e ∙ ap length (contents_of q) in
     let m : n ≤ 8 = rw (k, length-take) (omega arith) in
@@ -111,38 +116,15 @@ word_held q i h =
     let k = rw (contents_of q) at h in
     rw (contents_of q) (sym (get_or-take q.count q.words i 0 (let m = length-take q.count q.words in omega arith)))
 
-pub word_past : (q : Queue) (i : ℕ) → length (contents q) ≤ i → get_or (contents q) i 0 ≡ 0
-word_past q i h = get_or-eq_default (contents q) 0 {n = i} h
-
 -- restoring a queue from its eight places
 
-used_from : ℕ → ℕ → List ℕ → List ℕ
-used_from n i [] = []
-used_from n i (x ∷ xs) = used_word n i x ∷ used_from n (suc i) xs
-
-take_used : (l : List ℕ) (m n i : ℕ) → m + i ≤ n → take m (used_from n i l) ≡ take m l
-unfolding used_from used_word
-take_used [] zero n i h = refl
-take_used [] (suc m) n i h = refl
-take_used (x ∷ xs) zero n i h = refl
-take_used (x ∷ xs) (suc m) n i h = rw (lt-ltb i n (omega arith), take_used xs m n (suc i) (omega arith))
-
-used_past : (l : List ℕ) (n i j : ℕ) → n ≤ i + j → get_or (used_from n i l) j 0 ≡ 0
-unfolding used_from used_word
-used_past [] n i zero h = refl
-used_past [] n i (suc j) h = refl
-used_past (x ∷ xs) n i zero h = rw (le-ltb i n (omega arith))
-used_past (x ∷ xs) n i (suc j) h = used_past xs n (suc i) j (omega arith)
-
-eight : (l : List ℕ) → length l ≡ 8 → l ≡ get_or l 0 0 ∷ get_or l 1 0 ∷ get_or l 2 0 ∷ get_or l 3 0 ∷ get_or l 4 0 ∷ get_or l 5 0 ∷ get_or l 6 0 ∷ get_or l 7 0 ∷ []
-eight l long =
-    drop-cons l 0 0 (omega arith) ∙ rw (drop-cons l 1 0 (omega arith), drop-cons l 2 0 (omega arith), drop-cons l 3 0 (omega arith), drop-cons l 4 0 (omega arith), drop-cons l 5 0 (omega arith), drop-cons l 6 0 (omega arith), drop-cons l 7 0 (omega arith), drop_of_length-le l {i = 8} (omega arith))
-
-pub restored_from : (l : List ℕ) (n : ℕ) → length l ≡ 8 → Restored l n (record { words = used_word n 0 (get_or l 0 0) ∷ used_word n 1 (get_or l 1 0) ∷ used_word n 2 (get_or l 2 0) ∷ used_word n 3 (get_or l 3 0) ∷ used_word n 4 (get_or l 4 0) ∷ used_word n 5 (get_or l 5 0) ∷ used_word n 6 (get_or l 6 0) ∷ used_word n 7 (get_or l 7 0) ∷ []; count = n })
-unfolding used_from
-restored_from l n long =
-    let e : used_from n 0 l ≡ used_word n 0 (get_or l 0 0) ∷ used_word n 1 (get_or l 1 0) ∷ used_word n 2 (get_or l 2 0) ∷ used_word n 3 (get_or l 3 0) ∷ used_word n 4 (get_or l 4 0) ∷ used_word n 5 (get_or l 5 0) ∷ used_word n 6 (get_or l 6 0) ∷ used_word n 7 (get_or l 7 0) ∷ [] = ap (used_from n 0) (eight l long) in
+pub restored_from : (words clean : List ℕ) (n : ℕ) → length clean ≡ 8 → take n clean ≡ take n words → ((i : ℕ) → n ≤ i → i < 8 → get_or clean i 0 ≡ 0) → Restored words n (record { words = clean; count = n })
+restored_from words clean n long same past =
     record {
-      holds = contents_of _ ∙ rw (← e) (take_used l n n 0 (omega arith));
-      clean = clean_intro _ (λ i h. ap (λ (t : List ℕ). get_or t i 0) (sym e) ∙ used_past l n 0 i (omega arith));
+      holds = contents_of _ ∙ same;
+      clean = clean_intro _ (λ i h. go i h (dec_lt i 8));
     }
+  where
+    go : (i : ℕ) → n ≤ i → Dec (i < 8) → get_or clean i 0 ≡ 0
+    go i h (yes p) = past i h p
+    go i h (no p) = get_or-eq_default clean 0 {n = i} (omega arith)

@@ -1,12 +1,7 @@
 -- The words in a queue and what each step does to them: first in, first out, at most eight words.
-use Rattle.std.specs.Prelude.{ℕ, ◌≤◌, ◌≡◌, List, [], ◌∷◌, ◌++◌, length, get_or, take, ltb}
-use Rattle.queue.specs.Choose.{pick}
+use Rattle.std.specs.Prelude.{ℕ, ◌≤◌, ◌≡◌, Option, Some, None, List, [], ◌∷◌, ◌++◌, length, get_or, take, ltb}
+use Rattle.queue.specs.Choose.{pick, words_of}
 use Rattle.queue.specs.declared.Queue.{Queue}
-use Rattle.queue.specs.declared.Dropped.{Dropped}
-use Rattle.queue.specs.declared.Added.{Added}
-use Rattle.queue.specs.declared.Taken.{Taken}
-use Rattle.queue.specs.declared.Oldest.{Oldest}
-use Rattle.queue.specs.declared.Oldest.TheVariants.{Word, Nothing}
 pub mod Inside
 
 -- How many words a queue can hold.
@@ -21,14 +16,10 @@ contents q = take q.count q.words
 pub Clean : Queue → Type 0
 Clean q = (i : ℕ) → q.count ≤ i → get_or q.words i 0 ≡ 0
 
--- The word at a place: w if the place is in use, otherwise zero.
-unfoldable pub used_word : ℕ → ℕ → ℕ → ℕ
-used_word count place w = pick (ltb place count) w 0
-
 -- The oldest of the words in a queue, if there is one.
-abbrev pub oldest : List ℕ → Oldest
-oldest [] = Nothing
-oldest (x ∷ xs) = Word x
+abbrev pub oldest : List ℕ → Option ℕ
+oldest [] = None
+oldest (x ∷ xs) = Some x
 
 -- The words in the queue without the oldest.
 abbrev pub rest : List ℕ → List ℕ
@@ -47,11 +38,6 @@ added xs w = pick (ltb (length xs) places) (xs ++ (w ∷ [])) xs
 unfoldable pub dropped : List ℕ → ℕ → List ℕ
 dropped xs w = pick (ltb (length xs) places) [] (w ∷ [])
 
--- The words that an answer hands back: one or none.
-abbrev pub dropped_words : Dropped → List ℕ
-dropped_words (Dropped.Word w) = w ∷ []
-dropped_words Dropped.Nothing = []
-
 -- An empty queue.
 pub record Empty (r : Queue) : Type 0 where
   pub holds : contents r ≡ []
@@ -63,16 +49,16 @@ pub record Count (q : Queue) (r : ℕ) : Type 0 where
   pub most : r ≤ places
 
 -- A word is added. With eight held it is dropped and handed back instead, and the eight stay.
-pub record Add (q : Queue) (w : ℕ) (r : Added) : Type 0 where
-  pub dropped : dropped_words r.dropped ≡ dropped (contents q) w
-  pub holds : contents r.queue ≡ added (contents q) w
-  pub clean : Clean q → Clean r.queue
+pub record Add (q : Queue) (w : ℕ) (r : Option ℕ) (after : Queue) : Type 0 where
+  pub dropped : words_of r ≡ dropped (contents q) w
+  pub holds : contents after ≡ added (contents q) w
+  pub clean : Clean q → Clean after
 
 -- The oldest word, if there is one, is taken out; the others stay in their order.
-pub record TakeOldest (q : Queue) (r : Taken) : Type 0 where
-  pub word : r.oldest ≡ oldest (contents q)
-  pub holds : contents r.queue ≡ rest (contents q)
-  pub clean : Clean q → Clean r.queue
+pub record TakeOldest (q : Queue) (r : Option ℕ) (after : Queue) : Type 0 where
+  pub word : r ≡ oldest (contents q)
+  pub holds : contents after ≡ rest (contents q)
+  pub clean : Clean q → Clean after
 
 -- The queue holds the first `count` of the given words; its other places are zero.
 pub record Restored (words : List ℕ) (count : ℕ) (r : Queue) : Type 0 where

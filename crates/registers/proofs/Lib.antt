@@ -1,8 +1,9 @@
 mod BitLaws
 mod Decoder
 mod Products
-pub mod Picks
+mod Results
 mod Arrivals
+pub mod Picks
 pub mod ResetValues
 pub mod Accesses
 pub mod Writes

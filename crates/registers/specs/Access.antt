@@ -1,21 +1,17 @@
 -- What a read or a write of a register answers, and the register file after it.
-use Rattle.std.specs.Prelude.{ℕ, ◌*◌, ◌/◌, ◌%◌, ◌≡◌, [], Bool, not, ◌&&◌, ◌||◌, length, get_or, leb, eqb}
+use Rattle.std.specs.Prelude.{ℕ, ◌*◌, ◌/◌, ◌%◌, ◌≡◌, Bool, not, ◌&&◌, ◌||◌, length, get_or, leb, eqb}
 use Rattle.queue.specs.Fifo.{added, rest}
 use Rattle.registers.specs.Choose.{pick}
 use Rattle.registers.specs.Bits.{bit_at, bits_differ}
 use Rattle.registers.specs.Time.{cycles}
-use Rattle.registers.specs.Refusals.{done, bad_offset, reserved_offset, wrong_access, extra_bits, engine_active, not_permitted, queue_full, queue_empty, first_of, refusal_of, word_of}
-use Rattle.registers.specs.Model.{Model, model_of, with_cr0, with_cr1, with_cpsr, with_control, with_masks, with_timeout, with_ror, with_tx, with_rx}
+use Rattle.registers.specs.Refusals.{done, bad_offset, reserved_offset, wrong_access, extra_bits, engine_active, not_permitted, queue_full, queue_empty, first_of, Answer, Word, Refused, refusal_of, word_of}
+use Rattle.registers.specs.Model.{Model, with_cr0, with_cr1, with_cpsr, with_control, with_masks, with_timeout, with_ror, with_tx, with_rx}
 use Rattle.registers.specs.Offsets.{register_of, identity_of}
 use Rattle.registers.specs.Settings.{permitted_of}
 use Rattle.registers.specs.Flags.{status_of, raw_of, masked_of, interrupt_word}
 use Rattle.registers.specs.declared.time.Cycles.{Cycles}
 use Rattle.registers.specs.declared.offsets.Register.{Register}
 use Rattle.registers.specs.declared.offsets.Register.TheVariants.{Cr0, Cr1, Dr, Sr, Cpsr, Imsc, Ris, Mis, Icr, Dmacr, Identity, Reserved, Outside}
-use Rattle.registers.specs.declared.access.Answer.{Answer}
-use Rattle.registers.specs.declared.access.Answer.TheVariants.{Word, Refused}
-use Rattle.registers.specs.declared.access.Reading.{Reading}
-use Rattle.registers.specs.declared.access.Written.{Written}
 
 -- Reading ------------------------------------------------------------------------------------------------------------
 
@@ -82,11 +78,11 @@ unfoldable pub read_model : Model → ℕ → Model
 read_model m o = pick (eqb (read_refusal m (register_of o)) done) (read_done m (register_of o)) m
 
 -- A read: its answer, and the register file after it.
-pub record Read (m : Model) (frame : Bool) (o : ℕ) (r : Reading) : Type 0 where
-  pub answer : r.answer ≡ read_answer m frame o
-  pub refusal : refusal_of r.answer ≡ read_refusal m (register_of o)
-  pub word : word_of r.answer ≡ pick (eqb (read_refusal m (register_of o)) done) (read_word m frame (register_of o)) 0
-  pub model : model_of r.registers ≡ read_model m o
+pub record Read (m : Model) (frame : Bool) (o : ℕ) (r : Answer) (after : Model) : Type 0 where
+  pub answer : r ≡ read_answer m frame o
+  pub refusal : refusal_of r ≡ read_refusal m (register_of o)
+  pub word : word_of r ≡ pick (eqb (read_refusal m (register_of o)) done) (read_word m frame (register_of o)) 0
+  pub model : after ≡ read_model m o
 
 -- Writing ------------------------------------------------------------------------------------------------------------
 
@@ -208,6 +204,6 @@ unfoldable pub write_model : Model → Bool → ℕ → ℕ → Model
 write_model m active o v = pick (eqb (write_refusal m active (register_of o) v) done) (write_done m (register_of o) v) m
 
 -- A write: its refusal number, and the register file after it.
-pub record Write (m : Model) (active : Bool) (o v : ℕ) (r : Written) : Type 0 where
-  pub refusal : r.refusal ≡ write_refusal m active (register_of o) v
-  pub model : model_of r.registers ≡ write_model m active o v
+pub record Write (m : Model) (active : Bool) (o v r : ℕ) (after : Model) : Type 0 where
+  pub refusal : r ≡ write_refusal m active (register_of o) v
+  pub model : after ≡ write_model m active o v

@@ -1,14 +1,9 @@
 -- The status register and the interrupts.
-use Rattle.std.specs.Prelude.{ℕ, ◌+◌, ◌≤◌, ◌≡◌, Bool, not, ◌&&◌, ◌||◌, length, ltb, leb, eqb}
+use Rattle.std.specs.Prelude.{ℕ, ◌+◌, Bool, not, ◌&&◌, ◌||◌, length, ltb, leb, eqb}
 use Rattle.registers.specs.Choose.{pick}
 use Rattle.registers.specs.Bits.{bit_at}
 use Rattle.registers.specs.Model.{Model}
 use Rattle.registers.specs.declared.flags.Interrupts.{Interrupts}
-
--- A flag as a bit of a register: the bit's weight if the flag is set, otherwise 0.
-pub record ValueOf (flag : Bool) (weight r : ℕ) : Type 0 where
-  pub value : r ≡ pick flag weight 0
-  pub most : r ≤ weight
 
 -- BSY: a frame is in progress, or the transmit queue is not empty.
 unfoldable pub busy_of : Model → Bool → Bool

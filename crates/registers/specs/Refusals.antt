@@ -1,8 +1,8 @@
 -- The refusal numbers that a register access can give, in the order in which they are checked; 0 means done.
-use Rattle.std.specs.Prelude.{ℕ, eqb}
+use Rattle.std.specs.Prelude.{ℕ, eqb, Result, Ok, Err}
 use Rattle.registers.specs.Choose.{pick}
-use Rattle.registers.specs.declared.access.Answer.{Answer}
-use Rattle.registers.specs.declared.access.Answer.TheVariants.{Word, Refused}
+use Rattle.registers.specs.declared.refusals.Refusal.{Refusal}
+use Rattle.registers.specs.declared.refusals.Refusal.TheVariants.{BadOffset, ReservedOffset, WrongAccess, ExtraBits, EngineActive, NotPermitted, QueueFull, QueueEmpty}
 
 -- nothing is refused
 abbrev pub done : ℕ
@@ -43,6 +43,32 @@ queue_empty = 8
 -- The first refusal of two that applies.
 abbrev pub first_of : ℕ → ℕ → ℕ
 first_of a b = pick (eqb a done) b a
+
+-- The number of a refusal.
+abbrev pub number : Refusal → ℕ
+number BadOffset = bad_offset
+number ReservedOffset = reserved_offset
+number WrongAccess = wrong_access
+number ExtraBits = extra_bits
+number EngineActive = engine_active
+number NotPermitted = not_permitted
+number QueueFull = queue_full
+number QueueEmpty = queue_empty
+
+-- The refusal number of a result: 0 where it is done.
+abbrev pub refusal_number : {A : Type 0} → Result A Refusal → ℕ
+refusal_number (Ok x) = done
+refusal_number (Err e) = number e
+
+-- What a read answers: a word, or a refusal number.
+pub data Answer : Type 0 where
+  Word : ℕ → Answer
+  Refused : ℕ → Answer
+
+-- The answer that a read's result is.
+abbrev pub answer_of : Result ℕ Refusal → Answer
+answer_of (Ok w) = Word w
+answer_of (Err e) = Refused (number e)
 
 -- An answer's refusal number.
 abbrev pub refusal_of : Answer → ℕ

@@ -1,16 +1,13 @@
 -- What the serial engine does to the register file: it takes words to send, delivers received words and ends each cycle.
-use Rattle.std.specs.Prelude.{ℕ, ◌+◌, ◌≤◌, ◌≡◌, Bool, true, false, not, ◌&&◌, ◌||◌, List, [], ◌∷◌, length, get_or, ltb, leb, eqb}
+use Rattle.std.specs.Prelude.{ℕ, ◌+◌, ◌≤◌, ◌≡◌, Bool, true, false, not, ◌&&◌, ◌||◌, List, length, get_or, ltb, leb, eqb}
 unfoldable pub use Rattle.queue.specs.Fifo.{added, dropped}
 pub use Rattle.queue.specs.Fifo.{rest}
 use Rattle.registers.specs.Choose.{pick}
 use Rattle.registers.specs.Time.{cycles, slots, cycles_of}
-use Rattle.registers.specs.Model.{Model, model_of, with_timeout, with_ror, with_tx, with_rx}
+use Rattle.registers.specs.Model.{Model, with_timeout, with_ror, with_tx, with_rx}
 use Rattle.registers.specs.Settings.{enabled_of, divisor_of}
 use Rattle.registers.specs.declared.Timeout.{Timeout}
 use Rattle.registers.specs.declared.time.Cycles.{Cycles}
-use Rattle.registers.specs.declared.transfer.Lost.{Lost}
-use Rattle.registers.specs.declared.transfer.Lost.TheVariants.{Word, Nothing}
-use Rattle.registers.specs.declared.transfer.Received.{Received}
 
 -- A word waits to be sent: SSE is 1 and the transmit queue is not empty.
 unfoldable pub waiting_of : Model → Bool
@@ -35,15 +32,10 @@ receive_word m w =
 unfoldable pub lost_word : Model → ℕ → List ℕ
 lost_word m w = dropped m.rx w
 
--- The words that an answer hands up: one or none.
-abbrev pub lost_words : Lost → List ℕ
-lost_words (Word w) = w ∷ []
-lost_words Nothing = []
-
 -- The arrival of a completed word: the register file after it, and the word if it was lost.
-pub record ReceiveWord (m : Model) (w : ℕ) (r : Received) : Type 0 where
-  pub registers : model_of r.registers ≡ receive_word m w
-  pub lost : lost_words r.lost ≡ lost_word m w
+pub record ReceiveWord (m : Model) (w : ℕ) (r : List ℕ) (after : Model) : Type 0 where
+  pub registers : after ≡ receive_word m w
+  pub lost : r ≡ lost_word m w
 
 -- Whether a cycle counts for RT: it ends with a word held, SSE set and no frame in progress.
 unfoldable pub idles_of : Model → Bool → Bool

@@ -1,5 +1,5 @@
 // The register file as the fields that a record stores, and back.
-ghost use Rattle.std.specs.Prelude.{◌≡◌, length};
+ghost use Rattle.std.specs.Prelude.{◌≡◌};
 ghost use Rattle.queue.specs.Fifo.{contents};
 ghost use Rattle.registers.specs.Model.{model_of};
 ghost use Rattle.registers.specs.Fields.{places, fields_of, restored};
@@ -8,6 +8,7 @@ use crate::{Control, Masks, Registers, Timeout};
 use queue::Queue;
 
 // The registers, and each queue as its eight places, oldest word first, with a count.
+// Arrays with a count beside them, not slices: these are the fields of the record that C lends.
 #[derive(Clone, Copy)]
 pub struct Fields {
     pub control: Control,
@@ -23,66 +24,46 @@ pub struct Fields {
 }
 
 // A queue's eight places; 0 after the last word.
-fn places(q: Queue) -> [u16; 8]
-    ensures { result ≡ places (contents q) }
+fn places(q: &Queue) -> [u16; 8]
+    ensures { result ≡ places (contents q.now) }
 {
-    [
-        queue::word_at(q, 0),
-        queue::word_at(q, 1),
-        queue::word_at(q, 2),
-        queue::word_at(q, 3),
-        queue::word_at(q, 4),
-        queue::word_at(q, 5),
-        queue::word_at(q, 6),
-        queue::word_at(q, 7),
-    ]
-}
-
-// How many words are in a queue.
-fn count(q: Queue) -> u8
-    ensures { result ≡ length (contents q) }
-{
-    queue::count(q) as u8
+    let mut words = [0; 8];
+    for (place, word) in words.iter_mut().enumerate() {
+        *word = q.word_at(place);
+    }
+    words
 }
 
 // The fields of a register file.
-pub fn fields_of(r: Registers) -> Fields
-    ensures { result ≡ fields_of (model_of r) }
-{
-    let control = r.control;
-    let masks = r.masks;
-    let timeout = r.timeout;
-    let tx = places(r.tx);
-    let rx = places(r.rx);
-    Fields {
-        control,
-        masks,
-        timeout,
-        ror: r.ror,
-        tx,
-        waiting: count(r.tx),
-        rx,
-        held: count(r.rx),
+impl From<Registers> for Fields {
+    ghost from_gives = { λ r f. f ≡ fields_of (model_of r) };
+
+    fn from(r: Registers) -> Fields {
+        Fields {
+            control: r.control,
+            masks: r.masks,
+            timeout: r.timeout,
+            ror: r.ror,
+            tx: places(&r.tx),
+            waiting: r.tx.count() as u8,
+            rx: places(&r.rx),
+            held: r.rx.count() as u8,
+        }
     }
 }
 
 // The register file of these fields; a count above eight acts as eight.
-pub fn restored(f: Fields) -> Registers
-    ensures { model_of result ≡ restored f }
-{
-    let control = f.control;
-    let masks = f.masks;
-    let timeout = f.timeout;
-    let sending = f.tx;
-    let receiving = f.rx;
-    let tx = queue::restored(sending, f.waiting as usize);
-    let rx = queue::restored(receiving, f.held as usize);
-    Registers {
-        control,
-        masks,
-        timeout,
-        ror: f.ror,
-        tx,
-        rx,
+impl From<Fields> for Registers {
+    ghost from_gives = { λ f r. model_of r ≡ restored f };
+
+    fn from(f: Fields) -> Registers {
+        Registers {
+            control: f.control,
+            masks: f.masks,
+            timeout: f.timeout,
+            ror: f.ror,
+            tx: Queue::restored(f.tx, f.waiting as usize),
+            rx: Queue::restored(f.rx, f.held as usize),
+        }
     }
 }

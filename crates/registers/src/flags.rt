@@ -1,9 +1,10 @@
 // The status register and the interrupts.
 ghost use Rattle.std.specs.Prelude.{◌≡◌};
 ghost use Rattle.registers.specs.Model.{model_of};
-ghost use Rattle.registers.specs.Flags.{ValueOf, busy_of, status_of, raw_of, masked_of, interrupt_word};
+ghost use Rattle.registers.specs.Flags.{busy_of, status_of, raw_of, masked_of, interrupt_word};
 
-use crate::{Registers, bits};
+use crate::Registers;
+use crate::bits::{self, value_of};
 
 // The four interrupts, raw or masked.
 #[derive(Clone, Copy)]
@@ -14,66 +15,59 @@ pub struct Interrupts {
     pub ror: bool,
 }
 
-// A flag as a bit of a register: the bit's weight if the flag is set, otherwise 0.
-fn value_of(flag: bool, weight: u16) -> u16
-    ensures { ValueOf flag weight result }
-{
-    if flag { weight } else { 0 }
-}
-
-// BSY: a frame is in progress, or the transmit queue is not empty.
-pub fn busy_of(r: Registers, frame: bool) -> bool
-    ensures { result ≡ busy_of (model_of r) frame }
-{
-    let n = queue::count(r.tx);
-    frame | (n != 0)
-}
-
-// SR as a word.
-pub fn status_of(r: Registers, frame: bool) -> u16
-    ensures { result ≡ status_of (model_of r) frame }
-{
-    let t = queue::count(r.tx);
-    let n = queue::count(r.rx);
-    let b = busy_of(r, frame);
-    value_of(b, 16)
-        + value_of(8 <= n, 8)
-        + value_of(n != 0, 4)
-        + value_of(t < 8, 2)
-        + value_of(t == 0, 1)
-}
-
-// The interrupts before masking.
-pub fn raw_of(r: Registers) -> Interrupts
-    ensures { result ≡ raw_of (model_of r) }
-{
-    let t = queue::count(r.tx);
-    let n = queue::count(r.rx);
-    Interrupts {
-        tx: t <= 4,
-        rx: 4 <= n,
-        rt: r.timeout.rt,
-        ror: r.ror,
-    }
-}
-
-// The interrupts that IMSC lets through.
-pub fn masked_of(r: Registers) -> Interrupts
-    ensures { result ≡ masked_of (model_of r) }
-{
-    let i = raw_of(r);
-    let m = r.masks.imsc as u32;
-    Interrupts {
-        tx: i.tx & bits::bit_at(m, 3),
-        rx: i.rx & bits::bit_at(m, 2),
-        rt: i.rt & bits::bit_at(m, 1),
-        ror: i.ror & bits::bit_at(m, 0),
-    }
-}
-
 // RIS or MIS as a word.
-pub fn interrupt_word(i: Interrupts) -> u16
-    ensures { result ≡ interrupt_word i }
-{
-    value_of(i.tx, 8) + value_of(i.rx, 4) + value_of(i.rt, 2) + value_of(i.ror, 1)
+impl From<Interrupts> for u16 {
+    ghost from_gives = { λ i r. r ≡ interrupt_word i };
+
+    fn from(i: Interrupts) -> u16 {
+        value_of(i.tx, 8u16) + value_of(i.rx, 4) + value_of(i.rt, 2) + value_of(i.ror, 1)
+    }
+}
+
+impl Registers {
+    // BSY: a frame is in progress, or the transmit queue is not empty.
+    pub fn busy(&self, frame: bool) -> bool
+        ensures { result ≡ busy_of (model_of self.now) frame }
+    {
+        frame | (self.tx.count() != 0)
+    }
+
+    // SR as a word.
+    pub fn status(&self, frame: bool) -> u16
+        ensures { result ≡ status_of (model_of self.now) frame }
+    {
+        let waiting = self.tx.count();
+        let held = self.rx.count();
+        value_of(self.busy(frame), 16u16)
+            + value_of(8 <= held, 8)
+            + value_of(held != 0, 4)
+            + value_of(waiting < 8, 2)
+            + value_of(waiting == 0, 1)
+    }
+
+    // The interrupts before masking.
+    pub fn raw(&self) -> Interrupts
+        ensures { result ≡ raw_of (model_of self.now) }
+    {
+        Interrupts {
+            tx: self.tx.count() <= 4,
+            rx: 4 <= self.rx.count(),
+            rt: self.timeout.rt,
+            ror: self.ror,
+        }
+    }
+
+    // The interrupts that IMSC lets through.
+    pub fn masked(&self) -> Interrupts
+        ensures { result ≡ masked_of (model_of self.now) }
+    {
+        let raw = self.raw();
+        let mask = self.masks.imsc as u32;
+        Interrupts {
+            tx: raw.tx & bits::bit_at(mask, 3),
+            rx: raw.rx & bits::bit_at(mask, 2),
+            rt: raw.rt & bits::bit_at(mask, 1),
+            ror: raw.ror & bits::bit_at(mask, 0),
+        }
+    }
 }

@@ -11,16 +11,18 @@ pub mod bits;
 pub mod time;
 // The register that an offset names.
 pub mod offsets;
+// Why an access is refused.
+pub mod refusals;
 // What the control registers mean.
 pub mod settings;
 // SR and the interrupts.
 pub mod flags;
 // Reads and writes.
-pub mod access;
+mod access;
 // Words from and to the engine; the receive timeout.
-pub mod transfer;
+mod transfer;
 // Which register files are sound.
-pub mod sound;
+mod sound;
 // A register file as plain fields.
 pub mod fields;
 
@@ -63,24 +65,26 @@ pub struct Registers {
     rx: Queue,
 }
 
-// Reset: all zero, queues empty, of the edition asked for.
-pub fn reset_registers(edition2: bool) -> Registers
-    ensures { model_of result ≡ reset_registers edition2 }
-{
-    Registers {
-        control: Control {
-            cr0: 0,
-            cr1: 0,
-            cpsr: 0,
-            edition2,
-        },
-        masks: Masks { imsc: 0, dmacr: 0 },
-        timeout: Timeout {
-            rt: false,
-            count: Cycles(0),
-        },
-        ror: false,
-        tx: queue::empty(),
-        rx: queue::empty(),
+impl Registers {
+    // Reset: all zero, queues empty, of the edition asked for.
+    pub fn reset(edition2: bool) -> Registers
+        ensures { model_of result ≡ reset_registers edition2 }
+    {
+        Registers {
+            control: Control {
+                cr0: 0,
+                cr1: 0,
+                cpsr: 0,
+                edition2,
+            },
+            masks: Masks { imsc: 0, dmacr: 0 },
+            timeout: Timeout {
+                rt: false,
+                count: Cycles(0),
+            },
+            ror: false,
+            tx: Queue::empty(),
+            rx: Queue::empty(),
+        }
     }
 }

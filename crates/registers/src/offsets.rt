@@ -25,26 +25,28 @@ pub enum Register {
 // What the identity registers hold.
 const IDENTITY: [u8; 8] = [0x22, 0x10, 0x34, 0x00, 0x0D, 0xF0, 0x05, 0xB1];
 
-pub fn register_of(offset: u32) -> Register
-    ensures { result ≡ register_of offset }
-{
-    if offset % 4 != 0 {
-        return Register::Outside;
-    }
-    match offset {
-        0x00 => Register::Cr0,
-        0x04 => Register::Cr1,
-        0x08 => Register::Dr,
-        0x0C => Register::Sr,
-        0x10 => Register::Cpsr,
-        0x14 => Register::Imsc,
-        0x18 => Register::Ris,
-        0x1C => Register::Mis,
-        0x20 => Register::Icr,
-        0x24 => Register::Dmacr,
-        0x28..=0xFDC => Register::Reserved,
-        0xFE0..=0xFFC => Register::Identity(((offset - 0xFE0) / 4) as usize),
-        _ => Register::Outside,
+impl From<u32> for Register {
+    ghost from_gives = { λ o r. r ≡ register_of o };
+
+    fn from(offset: u32) -> Register {
+        if offset % 4 != 0 {
+            return Register::Outside;
+        }
+        match offset {
+            0x00 => Register::Cr0,
+            0x04 => Register::Cr1,
+            0x08 => Register::Dr,
+            0x0C => Register::Sr,
+            0x10 => Register::Cpsr,
+            0x14 => Register::Imsc,
+            0x18 => Register::Ris,
+            0x1C => Register::Mis,
+            0x20 => Register::Icr,
+            0x24 => Register::Dmacr,
+            0x28..=0xFDC => Register::Reserved,
+            0xFE0..=0xFFC => Register::Identity(((offset - 0xFE0) / 4) as usize),
+            _ => Register::Outside,
+        }
     }
 }
 
@@ -52,5 +54,5 @@ pub fn register_of(offset: u32) -> Register
 pub fn identity_of(index: usize) -> u8
     ensures { result ≡ identity_of index }
 {
-    if index < 8 { IDENTITY[index] } else { 0 }
+    IDENTITY.get(index).copied().unwrap_or(0)
 }

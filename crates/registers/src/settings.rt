@@ -39,18 +39,6 @@ pub struct Settings {
     pub edition2: bool,
 }
 
-fn format_of(cr0: u16) -> Format
-    ensures { result ≡ format_of cr0 }
-{
-    let frf = cr0 / 16 % 4;
-    match frf {
-        0 => Format::Motorola,
-        1 => Format::Ti,
-        2 => Format::Microwire,
-        _ => Format::Reserved,
-    }
-}
-
 // Whether the low 16 bits are a permitted CR0: a format below 3, at least four bits.
 pub fn permitted_of(cr0: u32) -> bool
     ensures { result ≡ permitted_of cr0 }
@@ -58,46 +46,57 @@ pub fn permitted_of(cr0: u32) -> bool
     (cr0 / 16 % 4 < 3) & (3 <= cr0 % 16)
 }
 
-pub(crate) fn divisor_of(c: Control) -> Divisor
-    ensures { DivisorOf c result }
-{
-    Divisor(((c.cpsr / 2) as u16) * (1 + c.cr0 / 256 % 256))
+impl Control {
+    fn format(&self) -> Format
+        ensures { result ≡ format_of self.now.cr0 }
+    {
+        let frf = self.cr0 / 16 % 4;
+        match frf {
+            0 => Format::Motorola,
+            1 => Format::Ti,
+            2 => Format::Microwire,
+            _ => Format::Reserved,
+        }
+    }
+
+    pub(crate) fn divisor(&self) -> Divisor
+        ensures { DivisorOf self.now result }
+    {
+        Divisor(((self.cpsr / 2) as u16) * (1 + self.cr0 / 256 % 256))
+    }
+
+    pub(crate) fn enabled(&self) -> bool
+        ensures { result ≡ enabled_of self.now }
+    {
+        bits::bit_at(self.cr1 as u32, 1)
+    }
 }
 
-pub(crate) fn enabled_of(c: Control) -> bool
-    ensures { result ≡ enabled_of c }
-{
-    bits::bit_at(c.cr1 as u32, 1)
-}
+impl Registers {
+    // SSE.
+    pub fn enabled(&self) -> bool
+        ensures { result ≡ enabled (model_of self.now) }
+    {
+        self.control.enabled()
+    }
 
-// SSE.
-pub fn enabled(r: Registers) -> bool
-    ensures { result ≡ enabled (model_of r) }
-{
-    let c = r.control;
-    enabled_of(c)
-}
-
-// The settings of the engine.
-pub fn settings_of(r: Registers) -> Settings
-    ensures { result ≡ settings_of (model_of r).control }
-{
-    let c = r.control;
-    let cr0 = c.cr0 as u32;
-    let cr1 = c.cr1 as u32;
-    let format = format_of(c.cr0);
-    let divisor = divisor_of(c);
-    let on = enabled_of(c);
-    Settings {
-        format,
-        phase: bits::bit_at(cr0, 7),
-        polarity: bits::bit_at(cr0, 6),
-        bits: (c.cr0 % 16) as u8 + 1,
-        divisor,
-        slave: bits::bit_at(cr1, 2),
-        sod: bits::bit_at(cr1, 3),
-        loopback: bits::bit_at(cr1, 0),
-        enabled: on,
-        edition2: c.edition2,
+    // The settings of the engine.
+    pub fn settings(&self) -> Settings
+        ensures { result ≡ settings_of (model_of self.now).control }
+    {
+        let cr0 = self.control.cr0 as u32;
+        let cr1 = self.control.cr1 as u32;
+        Settings {
+            format: self.control.format(),
+            phase: bits::bit_at(cr0, 7),
+            polarity: bits::bit_at(cr0, 6),
+            bits: (cr0 % 16) as u8 + 1,
+            divisor: self.control.divisor(),
+            slave: bits::bit_at(cr1, 2),
+            sod: bits::bit_at(cr1, 3),
+            loopback: bits::bit_at(cr1, 0),
+            enabled: self.enabled(),
+            edition2: self.control.edition2,
+        }
     }
 }

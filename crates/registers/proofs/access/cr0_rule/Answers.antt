@@ -5,10 +5,10 @@ pub returns-then-active : goal.returns-then-active
 unfolding cr0_rule
 returns-then-active c = rw c.if-active.true
 
-pub returns-then-good : goal.returns-then-good
+pub returns-then-not-permitted_of : goal.returns-then-not-permitted_of
 unfolding cr0_rule
-returns-then-good c = rw (c.if-active.false, ← c.permitted_of-good.ensures, c.if-good.true)
+returns-then-not-permitted_of c = rw (c.if-active.false, ← c.permitted_of.ensures, c.if-not-permitted_of.true)
 
-pub returns-else-good : goal.returns-else-good
+pub returns : goal.returns
 unfolding cr0_rule
-returns-else-good c = rw (c.if-active.false, ← c.permitted_of-good.ensures, c.if-good.false)
+returns c = rw (c.if-active.false, ← c.permitted_of.ensures, c.if-not-permitted_of.false)

@@ -1,0 +1,6 @@
+use Rattle.std.proofs.Common.{rules}
+use Rattle.queue.proofs.Contents.{taken_some, shifted}
+use Rattle.queue.proofs.Queue.take_oldest.Goals as goal
+
+pub returns : goal.returns
+returns c = taken_some _ _ _ (search rules) c.count-n.ensures.count c.if-n-eq0.false (shifted c.args.self.now.words c.copy_within.new.self (search rules) c.copy_within.ensures.after)
