@@ -8,13 +8,12 @@ use lib.ListN.{length}
 use lib.Dec.{leb, eqb}
 use Rattle.registers.specs.Choose.{pick}
 use Rattle.registers.specs.Bits.{bit_at, bits_differ}
-use Rattle.registers.specs.Refusals.{refusal_of}
+use Rattle.registers.specs.Refusals.{refusal_of, Word, Refused}
 use Rattle.registers.specs.Model.{Model}
 use Rattle.registers.specs.Offsets.{register_of}
 use Rattle.registers.specs.Settings.{enabled_of, settings_of, permitted_of}
 use Rattle.registers.specs.Access.{read_refusal, read_word, read_done, read_model, write_done, write_model, read_answer, bits_beyond, write_access, cr0_rule, cr1_rule, cpsr_rule, dr_rule, write_rule, write_refusal}
 use Rattle.registers.specs.declared.Control.{Control}
-use Rattle.registers.specs.declared.access.Answer.TheVariants.{Word, Refused}
 use Rattle.registers.specs.declared.offsets.Register.{Register}
 use Rattle.registers.specs.declared.offsets.Register.TheVariants.{Cr0, Cr1, Dr, Sr, Cpsr, Imsc, Ris, Mis, Icr, Dmacr, Identity, Reserved, Outside}
 use Rattle.serial.specs.Cycle.{DeviceModel, active_device, with_registers, with_engine}

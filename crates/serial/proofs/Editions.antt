@@ -7,7 +7,7 @@ use mathlib.Core.Logic.{◌⊎◌, inl, inr}
 use lib.Dec.{ltb, leb, eqb}
 use lib.ListN.{length}
 use Rattle.std.specs.Prelude.{Option, Some, None, is_some}
-use Rattle.registers.specs.Choose.{pick}
+use Rattle.registers.specs.Choose.{pick, words_of}
 use Rattle.registers.proofs.Picks.{pick_yes, pick_no, pick_both, pick_alike, and_right, or_right}
 use Rattle.registers.specs.Model.{Model, with_edition, with_control, with_timeout}
 use Rattle.registers.specs.Time.{cycles, slots}
@@ -25,7 +25,7 @@ use Rattle.registers.specs.declared.settings.Format.{Format}
 use Rattle.registers.specs.declared.settings.Format.TheVariants.{Motorola, Ti, Microwire}
 use Rattle.registers.specs.declared.settings.Format.TheVariants as formats
 use Rattle.registers.specs.declared.settings.Settings.{Settings}
-use Rattle.frames.specs.Engine.{active_of, while_active, cleared, words_of, no_word, with_slot, capture_step}
+use Rattle.frames.specs.Engine.{active_of, while_active, cleared, no_word, with_slot, capture_step}
 use Rattle.frames.specs.Slots.{event_of, last_slot, width_of, capture_width, levels_of}
 use Rattle.frames.specs.Lines.{lines_of, slave_lines, master_lines, master_txd, frame_lines}
 use Rattle.frames.specs.Master.{act, acting, data_bit, master_step, ticked, master_end}

@@ -10,14 +10,13 @@ use lib.ListN.{length, take, drop, length-append, take-append-drop}
 use lib.Seq.{take-nil, drop-nil}
 use borrow.Author.Tests.{lt-ltb, ltb-true, ltb-false}
 use Rattle.std.specs.Prelude.{Option, Some, None, is_some}
-use Rattle.registers.specs.Choose.{pick}
+use Rattle.registers.specs.Choose.{pick, words_of}
 use Rattle.registers.specs.Model.{Model}
 use Rattle.registers.specs.Transfer.{added, dropped, take_word, lost_word, end_cycle}
 use Rattle.serial.specs.Cycle.{DeviceModel, take_if, lost_if, device_step, completed_of, kept_of, lost_of, cycle_of, after, words_in, completed_in, kept_in, lost_in}
 use Rattle.serial.specs.Lost.{last_from, losses_of, highest, noted, some, LostInCycle, LostInRun, Numbers}
 use Rattle.serial.specs.declared.lost.Losses.{Losses}
 use Rattle.serial.proofs.Cycles.{on_word, step_file}
-use Rattle.frames.specs.Engine.{words_of}
 use Rattle.registers.proofs.Picks.{pick_both}
 use Rattle.frames.specs.declared.lines.Pins.{Pins}
 

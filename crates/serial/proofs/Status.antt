@@ -11,8 +11,7 @@ use Rattle.registers.specs.Model.{Model}
 use Rattle.registers.specs.Offsets.{register_of}
 use Rattle.registers.specs.Flags.{busy_of, status_of}
 use Rattle.registers.specs.Access.{read_answer}
-use Rattle.registers.specs.declared.access.Answer.{Answer}
-use Rattle.registers.specs.declared.access.Answer.TheVariants.{Word, Refused}
+use Rattle.registers.specs.Refusals.{Answer, Word, Refused}
 use Rattle.serial.specs.Cycle.{DeviceModel}
 use Rattle.serial.specs.Access.{read_answer_of}
 use Rattle.serial.specs.Busy.{busy_device}

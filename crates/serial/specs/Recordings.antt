@@ -1,9 +1,7 @@
 -- P1 to P10 as a table of rows, and what it means that a row holds.
 use Prim.{Unit}
 use Rattle.std.specs.Prelude.{ℕ, zero, suc, ◌/◌, ◌%◌, ◌^◌, ◌≡◌, Bool, List, [], ◌∷◌, map, replicate}
-use Rattle.registers.specs.Refusals.{done}
-use Rattle.registers.specs.declared.access.Answer.{Answer}
-use Rattle.registers.specs.declared.access.Answer.TheVariants.{Word, Refused}
+use Rattle.registers.specs.Refusals.{done, Answer, Word, Refused}
 use Rattle.frames.specs.Lines.{pins_of, byte_of}
 use Rattle.frames.specs.declared.lines.Pins.{Pins}
 use Rattle.serial.specs.Cycle.{DeviceModel, reset_device, after, recording}

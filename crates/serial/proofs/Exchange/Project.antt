@@ -7,13 +7,12 @@ use mathlib.Core.List.{List, ◌++◌, append-nil}
 use lib.Dec.{eqb}
 use lib.ListN.{length, get_or}
 use Rattle.std.specs.Prelude.{Option, Some, None}
-use Rattle.registers.specs.Choose.{pick}
+use Rattle.registers.specs.Choose.{pick, words_of}
 use Rattle.registers.specs.Model.{Model}
 use Rattle.registers.specs.Settings.{settings_of, enabled_of}
 use Rattle.registers.specs.Transfer.{rest, waiting_of, next_word, take_word, receive_word, end_cycle}
 use Rattle.registers.specs.declared.settings.Format.{Format}
 use Rattle.registers.specs.declared.settings.Settings.{Settings}
-use Rattle.frames.specs.Engine.{words_of}
 use Rattle.frames.specs.Lines.{master_lines, slave_lines, lines_of}
 use Rattle.frames.specs.Master.{master_step}
 use Rattle.serial.specs.Slave.{slave_step, slave_end}
