@@ -36,14 +36,14 @@ pub fn write(d: Device, offset: u32, value: u32) -> Written
 {
     let was = registers::settings::enabled(d.registers);
     let s = registers::settings::settings_of(d.registers);
-    let active = frames::engine::active_of(s, d.engine);
+    let active = d.engine.active(s);
     let out = registers::access::write(d.registers, active, offset, value);
     let registers = out.registers;
     let after = registers::settings::settings_of(registers);
     let mut device = d;
     device.registers = registers;
     if was {
-        device.engine = frames::engine::while_active(after, d.engine);
+        device.engine = d.engine.while_active(after);
     }
     Written {
         refusal: out.refusal,

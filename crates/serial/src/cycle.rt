@@ -1,11 +1,15 @@
 // One cycle of a device.
+#![tactic(auto, unfolding(crate::specs::Cycle::step_of, crate::specs::Cycle::tick_of, crate::specs::Cycle::end_of, crate::specs::Cycle::take_if, crate::specs::Cycle::receive_if))]
+
 ghost use Rattle.std.specs.Prelude.{◌≡◌};
 ghost use Rattle.registers.specs.Model.{model_of};
 ghost use Rattle.serial.specs.Cycle.{device_of, step_of, tick_of, end_of, take_if, ReceiveIf, CycleOf, not_run};
 
+use crate::slave::{Seen, slave_end, slave_step};
 use crate::{Device, History};
 use frames::engine::{Engine, Step};
 use frames::lines::Pins;
+use frames::master::{master_end, master_step};
 use registers::Registers;
 use registers::settings::Settings;
 use registers::transfer::{Lost, Received};
@@ -20,28 +24,27 @@ pub struct Cycled {
 fn step_of(s: Settings, e: Engine, h: History, pins: Pins, waiting: bool, next: u16) -> Step
     ensures { result ≡ step_of s e h pins waiting next }
 {
-    let active = frames::engine::active_of(s, e);
-    let slave = s.slave;
-    if active {
-        if slave {
-            let before = h.oldest;
-            let seen = h.middle;
-            return crate::slave::slave_step(s, e, before, seen, next);
-        }
-        return frames::master::master_step(s, e, waiting, next, pins.rxd);
+    if !e.active(s) {
+        Step::no_word(Engine::cleared())
+    } else if s.slave {
+        let seen = Seen {
+            before: h.oldest,
+            now: h.middle,
+        };
+        slave_step(s, e, seen, next)
+    } else {
+        master_step(s, e, waiting, next, pins.rxd)
     }
-    frames::engine::no_word(frames::engine::cleared())
 }
 
 // The end of a cycle: a master counts the cycle in its slot, a slave's last capture ends its frame.
 fn tick_of(s: Settings, e: Engine) -> Engine
     ensures { result ≡ tick_of s e }
 {
-    let slave = s.slave;
-    if slave {
-        crate::slave::slave_end(s, e)
+    if s.slave {
+        slave_end(s, e)
     } else {
-        frames::master::master_end(s, e)
+        master_end(s, e)
     }
 }
 
@@ -49,8 +52,7 @@ fn tick_of(s: Settings, e: Engine) -> Engine
 fn end_of(s: Settings, e: Engine) -> Engine
     ensures { result ≡ end_of s e }
 {
-    let after = tick_of(s, e);
-    frames::engine::while_active(s, after)
+    tick_of(s, e).while_active(s)
 }
 
 fn take_if(r: Registers, takes: bool) -> Registers

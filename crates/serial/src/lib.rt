@@ -51,7 +51,7 @@ pub fn reset_device(edition2: bool) -> Device
     };
     Device {
         registers: registers::reset_registers(edition2),
-        engine: frames::engine::cleared(),
+        engine: Engine::cleared(),
         pins: History {
             newest: low,
             middle: low,

@@ -1,4 +1,6 @@
 // Whether a device is sound.
+#![tactic(auto, unfolding(crate::specs::Sound::stopped_sound, crate::specs::Sound::running_sound, crate::specs::Sound::engine_sound))]
+
 ghost use Rattle.std.specs.Prelude.{◌≡◌};
 ghost use Rattle.serial.specs.Cycle.{device_of};
 ghost use Rattle.serial.specs.Sound.{stopped_sound, running_sound, engine_sound, sound_device};
@@ -27,7 +29,7 @@ fn running_sound(s: Settings, e: Engine) -> bool
 fn engine_sound(s: Settings, e: Engine) -> bool
     ensures { result ≡ engine_sound s e }
 {
-    let active = frames::engine::active_of(s, e);
+    let active = e.active(s);
     if active {
         running_sound(s, e)
     } else {
@@ -42,7 +44,7 @@ pub fn sound_device(d: Device) -> bool
     let file = d.registers;
     let e = d.engine;
     let s = registers::settings::settings_of(file);
-    let active = frames::engine::active_of(s, e);
+    let active = e.active(s);
     let kept = registers::sound::sound_registers(file, active);
     let runs = engine_sound(s, e);
     kept & runs
