@@ -13,7 +13,6 @@ use Rattle.serial.specs.Sound.{sound_device}
 use Rattle.serial.specs.declared.History.{History}
 use Rattle.frames.specs.declared.engine.Engine.{Engine}
 use Rattle.frames.specs.declared.lines.Lines.{Lines}
-use Rattle.frames.specs.declared.lines.Pins.{Pins}
 
 -- How many bytes a record has.
 abbrev pub record_length : ℕ
