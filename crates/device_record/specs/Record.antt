@@ -3,17 +3,16 @@ use Rattle.std.specs.Prelude.{ℕ, ◌+◌, ◌*◌, ◌/◌, ◌%◌, ◌≡◌
 use Rattle.std.proofs.Math.Seq.{paste}
 use mir.Val.{bool_byte}
 use Rattle.registers.specs.Choose.{pick}
-use Rattle.registers.specs.Bits.{bit_at}
 use Rattle.registers.specs.Time.{cycles, slots}
 use Rattle.registers.specs.Fields.{fields_of, restored}
 use Rattle.registers.specs.declared.fields.Fields.{Fields}
 use Rattle.frames.specs.Lines.{pins_of, byte_of}
+unfoldable pub use Rattle.frames.specs.Lines.{pin_byte, lines_from}
 use Rattle.serial.specs.Cycle.{DeviceModel}
 use Rattle.serial.specs.Sound.{sound_device}
 use Rattle.serial.specs.declared.History.{History}
 use Rattle.frames.specs.declared.engine.Engine.{Engine}
 use Rattle.frames.specs.declared.lines.Lines.{Lines}
-use Rattle.frames.specs.declared.lines.Pins.{Pins}
 
 -- How many bytes a record has.
 abbrev pub record_length : ℕ
@@ -34,10 +33,6 @@ pub record WordOf (lo hi word : ℕ) : Type 0 where
   pub joined : word ≡ lo + 256 * hi
   pub first : low word ≡ lo
   pub second : high word ≡ hi
-
--- A pin byte: CLK 1, FSS 2, RXD 4.
-unfoldable pub pin_byte : Pins → ℕ
-pin_byte p = pick p.clk 1 0 + pick p.fss 2 0 + pick p.rxd 4 0
 
 -- A device as bytes. The numbers are the places of the bytes in the record.
 
@@ -115,10 +110,6 @@ words_at b i =
     word_at b i ∷ word_at b (i + 2) ∷ word_at b (i + 4) ∷ word_at b (i + 6)
     ∷ word_at b (i + 8) ∷ word_at b (i + 10) ∷ word_at b (i + 12) ∷ word_at b (i + 14)
     ∷ []
-
--- A line byte: CLK 1, FSS 2, TXD 4, nSSPOE 8.
-unfoldable pub lines_from : ℕ → Lines
-lines_from x = record { clk = bit_at x 0; fss = bit_at x 1; txd = bit_at x 2; released = bit_at x 3 }
 
 -- The registers in bytes 0 to 11, the queue counts in 28 and 29, the edition in 30, the queue places in 32 to 63.
 unfoldable pub fields_at : List ℕ → Fields

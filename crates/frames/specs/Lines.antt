@@ -15,9 +15,17 @@ use Rattle.frames.specs.declared.slots.Levels.{Levels}
 unfoldable pub pins_of : ℕ → Pins
 pins_of x = record { clk = bit_at x 0; fss = bit_at x 1; rxd = bit_at x 2 }
 
+-- A pin byte: CLK 1, FSS 2, RXD 4.
+unfoldable pub pin_byte : Pins → ℕ
+pin_byte p = pick p.clk 1 0 + pick p.fss 2 0 + pick p.rxd 4 0
+
 -- An output byte: CLK 1, FSS 2, TXD 4, nSSPOE 8.
 unfoldable pub byte_of : Lines → ℕ
 byte_of l = pick l.clk 1 0 + pick l.fss 2 0 + pick l.txd 4 0 + pick l.released 8 0
+
+-- A line byte: CLK 1, FSS 2, TXD 4, nSSPOE 8.
+unfoldable pub lines_from : ℕ → Lines
+lines_from x = record { clk = bit_at x 0; fss = bit_at x 1; txd = bit_at x 2; released = bit_at x 3 }
 
 -- Exclusive or of two levels.
 abbrev pub differ : Bool → Bool → Bool

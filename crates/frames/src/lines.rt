@@ -1,10 +1,13 @@
 // The lines that a device drives, and the bytes of lines and pins.
+#![tactic(auto, unfolding(crate::specs::Lines::pins_of, crate::specs::Lines::pin_byte, crate::specs::Lines::byte_of, crate::specs::Lines::lines_from, crate::specs::Lines::frame_lines, crate::specs::Lines::master_txd, crate::specs::Lines::master_lines, crate::specs::Lines::slave_lines, crate::specs::Lines::lines_of))]
+
 ghost use Rattle.std.specs.Prelude.{◌≡◌};
-ghost use Rattle.registers.specs.Flags.{ValueOf};
-ghost use Rattle.frames.specs.Lines.{pins_of, byte_of, idle_on, clock_on, frame_lines, master_txd, master_lines, shows_on, slave_lines, lines_of, differ};
+ghost use Rattle.frames.specs.Slots.{levels_of};
+ghost use Rattle.frames.specs.Lines.{pins_of, pin_byte, byte_of, lines_from, idle_on, clock_on, frame_lines, joined_to, master_txd, master_lines, shows_on, slave_lines, lines_of};
 
 use crate::engine::Engine;
-use crate::slots::Levels;
+use crate::slots::{Levels, data_on, levels_of};
+use registers::bits::bit_at;
 use registers::settings::{Format, Settings};
 
 // The input levels of a cycle.
@@ -25,67 +28,66 @@ pub struct Lines {
 }
 
 // An input byte: CLK 1, FSS 2, RXD 4.
-pub fn pins_of(byte: u8) -> Pins
-    ensures { result ≡ pins_of byte }
-{
-    let levels = byte as u32;
-    Pins {
-        clk: registers::bits::bit_at(levels, 0),
-        fss: registers::bits::bit_at(levels, 1),
-        rxd: registers::bits::bit_at(levels, 2),
+impl From<u8> for Pins {
+    ghost from_gives = { λ byte pins. pins ≡ pins_of byte };
+
+    fn from(byte: u8) -> Pins {
+        let levels = byte as u32;
+        Pins {
+            clk: bit_at(levels, 0),
+            fss: bit_at(levels, 1),
+            rxd: bit_at(levels, 2),
+        }
     }
 }
 
-// The weight of a level in a byte.
-pub fn value_of(flag: bool, weight: u8) -> u8
-    ensures { ValueOf flag weight result }
-{
-    if flag { weight } else { 0 }
+// The byte of input levels.
+impl From<Pins> for u8 {
+    ghost from_gives = { λ pins byte. byte ≡ pin_byte pins };
+
+    fn from(pins: Pins) -> u8 {
+        pins.clk as u8 + 2 * pins.fss as u8 + 4 * pins.rxd as u8
+    }
 }
 
 // An output byte: CLK 1, FSS 2, TXD 4, nSSPOE 8.
-pub fn byte_of(l: Lines) -> u8
-    ensures { result ≡ byte_of l }
-{
-    value_of(l.clk, 1) + value_of(l.fss, 2) + value_of(l.txd, 4) + value_of(l.released, 8)
+impl From<Lines> for u8 {
+    ghost from_gives = { λ lines byte. byte ≡ byte_of lines };
+
+    fn from(lines: Lines) -> u8 {
+        lines.clk as u8 + 2 * lines.fss as u8 + 4 * lines.txd as u8 + 8 * lines.released as u8
+    }
 }
 
-// Exclusive or of two levels.
-pub fn differ(a: bool, b: bool) -> bool
-    ensures { result ≡ differ a b }
-{
-    (a & !b) | (!a & b)
+// The output levels in a byte.
+impl From<u8> for Lines {
+    ghost from_gives = { λ byte lines. lines ≡ lines_from byte };
+
+    fn from(byte: u8) -> Lines {
+        let levels = byte as u32;
+        Lines {
+            clk: bit_at(levels, 0),
+            fss: bit_at(levels, 1),
+            txd: bit_at(levels, 2),
+            released: bit_at(levels, 3),
+        }
+    }
 }
 
 // Idle lines of a master.
 pub fn idle_on(f: Format, polarity: bool) -> Lines
     ensures { result ≡ idle_on f polarity }
 {
-    match f {
-        Format::Motorola => Lines {
-            clk: polarity,
-            fss: true,
-            txd: false,
-            released: true,
-        },
-        Format::Ti => Lines {
-            clk: false,
-            fss: false,
-            txd: false,
-            released: true,
-        },
-        Format::Microwire => Lines {
-            clk: false,
-            fss: true,
-            txd: false,
-            released: true,
-        },
-        Format::Reserved => Lines {
-            clk: false,
-            fss: true,
-            txd: false,
-            released: true,
-        },
+    let (clk, fss) = match f {
+        Format::Motorola => (polarity, true),
+        Format::Ti => (false, false),
+        Format::Microwire | Format::Reserved => (false, true),
+    };
+    Lines {
+        clk,
+        fss,
+        txd: false,
+        released: true,
     }
 }
 
@@ -94,48 +96,46 @@ pub fn clock_on(f: Format, polarity: bool, active: bool) -> bool
     ensures { result ≡ clock_on f polarity active }
 {
     match f {
-        Format::Motorola => differ(active, polarity),
-        Format::Ti => active,
-        Format::Microwire => active,
-        Format::Reserved => active,
+        Format::Motorola => active != polarity,
+        Format::Ti | Format::Microwire | Format::Reserved => active,
     }
 }
 
 fn frame_lines(s: Settings, v: Levels, txd: bool) -> Lines
     ensures { result ≡ frame_lines s v txd }
 {
-    let f = s.format;
-    let clk = clock_on(f, s.polarity, v.clk);
     Lines {
-        clk,
+        clk: clock_on(s.format, s.polarity, v.clk),
         fss: v.fss,
         txd,
         released: v.released,
     }
 }
 
+// The levels of a master in a frame.
+fn master_levels(s: Settings, e: Engine) -> Levels
+    ensures { result ≡ levels_of s (joined_to e) e.slot }
+{
+    levels_of(s, e.shift.captured != 0, e.slot)
+}
+
 // TXD of a master in a frame.
 pub fn master_txd(s: Settings, e: Engine) -> bool
     ensures { result ≡ master_txd s e }
 {
-    let f = s.format;
-    let levels = crate::slots::levels_of(s, e.shift.captured != 0, e.slot);
-    let shown = crate::slots::data_on(f, levels, e.slot);
-    shown & e.shift.level
+    data_on(s.format, master_levels(s, e), e.slot) & e.shift.level
 }
 
 fn master_lines(s: Settings, e: Engine) -> Lines
     ensures { result ≡ master_lines s e }
 {
-    let frame = e.frame;
-    if frame {
-        let v = crate::slots::levels_of(s, e.shift.captured != 0, e.slot);
-        let f = s.format;
-        let shown = crate::slots::data_on(f, v, e.slot);
-        return frame_lines(s, v, shown & e.shift.level);
+    if e.frame {
+        let v = master_levels(s, e);
+        let shown = data_on(s.format, v, e.slot);
+        frame_lines(s, v, shown & e.shift.level)
+    } else {
+        idle_on(s.format, s.polarity)
     }
-    let f = s.format;
-    idle_on(f, s.polarity)
 }
 
 fn shows_on(f: Format, e: Engine) -> bool
@@ -152,8 +152,7 @@ fn shows_on(f: Format, e: Engine) -> bool
 fn slave_lines(s: Settings, e: Engine) -> Lines
     ensures { result ≡ slave_lines s e }
 {
-    let f = s.format;
-    let shows = shows_on(f, e);
+    let shows = shows_on(s.format, e);
     Lines {
         clk: false,
         fss: true,
@@ -166,8 +165,7 @@ fn slave_lines(s: Settings, e: Engine) -> Lines
 pub fn lines_of(s: Settings, e: Engine) -> Lines
     ensures { result ≡ lines_of s e }
 {
-    let slave = s.slave;
-    if slave {
+    if s.slave {
         slave_lines(s, e)
     } else {
         master_lines(s, e)

@@ -1,5 +1,7 @@
 // The slot tables: what a master does in a slot's first cycle, and the levels that it shows in that slot.
-ghost use Rattle.std.specs.Prelude.{◌≡◌, ◌-◌};
+#![tactic(auto, unfolding(crate::specs::Slots::motorola_event, crate::specs::Slots::ti_event, crate::specs::Slots::microwire_event, crate::specs::Slots::event_of, crate::specs::Slots::last_slot, crate::specs::Slots::width_of, crate::specs::Slots::motorola_levels, crate::specs::Slots::ti_levels, crate::specs::Slots::microwire_levels, crate::specs::Slots::levels_of))]
+
+ghost use Rattle.std.specs.Prelude.{◌≡◌};
 ghost use Rattle.frames.specs.Slots.{motorola_event, ti_event, microwire_event, event_of, last_slot, width_of, capture_width, data_on, motorola_levels, ti_levels, microwire_levels, levels_of};
 
 use registers::settings::{Format, Settings};
@@ -41,96 +43,55 @@ pub struct Levels {
 fn motorola_event(phase: bool, b: u8, n: u16) -> Event
     ensures { result ≡ motorola_event phase b n }
 {
-    let end = 2 * (b as u16);
-    if n == 0 {
-        return Event::Begin;
+    let end = 2 * b as u16;
+    match n {
+        0 => Event::Begin,
+        _ if n <= end && n % 2 == 1 => Event::Drive(n / 2),
+        _ if n <= end => Event::Capture,
+        _ if n == end + 1 && phase => Event::Chain(Slots(1)),
+        _ if n == end + 2 => Event::Release,
+        _ => Event::Pause,
     }
-    if n <= end {
-        if n % 2 == 1 {
-            return Event::Drive(n / 2);
-        }
-        return Event::Capture;
-    }
-    if n == end + 1 {
-        if phase {
-            return Event::Chain(Slots(1));
-        }
-        return Event::Pause;
-    }
-    if n == end + 2 {
-        return Event::Release;
-    }
-    Event::Pause
 }
 
 fn ti_event(b: u8, n: u16) -> Event
     ensures { result ≡ ti_event b n }
 {
-    if n == 0 {
-        return Event::Begin;
+    let b = b as u16;
+    match n {
+        0 => Event::Begin,
+        1 => Event::JoinCapture,
+        2 => Event::First,
+        _ if n == 2 * b => Event::JoinDrive(b.saturating_sub(1)),
+        _ if n % 2 == 0 => Event::Drive((n / 2).saturating_sub(1)),
+        _ => Event::Capture,
     }
-    if n == 1 {
-        return Event::JoinCapture;
-    }
-    if n == 2 {
-        return Event::First;
-    }
-    if n == 2 * (b as u16) {
-        return Event::JoinDrive(minus_one(b as u16));
-    }
-    if n % 2 == 0 {
-        return Event::Drive(minus_one(n / 2));
-    }
-    Event::Capture
-}
-
-fn minus_one(x: u16) -> u16
-    ensures { result ≡ x - 1 }
-{
-    if 1 <= x { x - 1 } else { 0 }
 }
 
 fn microwire_event(b: u8, n: u16) -> Event
     ensures { result ≡ microwire_event b n }
 {
-    let end = 2 * (b as u16);
-    if n == 0 {
-        return Event::BeginDrive;
+    let end = 2 * b as u16;
+    match n {
+        0 => Event::BeginDrive,
+        _ if n < 16 && n % 2 == 0 => Event::Drive(n / 2),
+        _ if n < 16 => Event::Pause,
+        16 => Event::Quiet,
+        _ if n < 18 + end && 19 <= n && n % 2 == 1 => Event::Capture,
+        _ if n == 18 + end => Event::Chain(Slots(0)),
+        _ if n == 19 + end => Event::Release,
+        _ => Event::Pause,
     }
-    if n < 16 {
-        if n % 2 == 0 {
-            return Event::Drive(n / 2);
-        }
-        return Event::Pause;
-    }
-    if n == 16 {
-        return Event::Quiet;
-    }
-    if n < 18 + end {
-        if (19 <= n) & (n % 2 == 1) {
-            return Event::Capture;
-        }
-        return Event::Pause;
-    }
-    if n == 18 + end {
-        return Event::Chain(Slots(0));
-    }
-    if n == 19 + end {
-        return Event::Release;
-    }
-    Event::Pause
 }
 
 // What happens in the first cycle of slot n.
 pub fn event_of(s: Settings, slot: Slots) -> Event
     ensures { result ≡ event_of s slot }
 {
-    let n = slot.0;
-    let f = s.format;
-    match f {
-        Format::Motorola => motorola_event(s.phase, s.bits, n),
-        Format::Ti => ti_event(s.bits, n),
-        Format::Microwire => microwire_event(s.bits, n),
+    match s.format {
+        Format::Motorola => motorola_event(s.phase, s.bits, slot.0),
+        Format::Ti => ti_event(s.bits, slot.0),
+        Format::Microwire => microwire_event(s.bits, slot.0),
         Format::Reserved => Event::Pause,
     }
 }
@@ -139,9 +100,8 @@ pub fn event_of(s: Settings, slot: Slots) -> Event
 pub fn last_slot(s: Settings) -> Slots
     ensures { result ≡ last_slot s }
 {
-    let end = 2 * (s.bits as u16);
-    let f = s.format;
-    match f {
+    let end = 2 * s.bits as u16;
+    match s.format {
         Format::Motorola => Slots(end + 3),
         Format::Ti => Slots(end + 1),
         Format::Microwire => Slots(end + 20),
@@ -153,12 +113,9 @@ pub fn last_slot(s: Settings) -> Slots
 pub fn width_of(s: Settings) -> u16
     ensures { result ≡ width_of s }
 {
-    let f = s.format;
-    match f {
-        Format::Motorola => s.bits as u16,
-        Format::Ti => s.bits as u16,
+    match s.format {
+        Format::Motorola | Format::Ti | Format::Reserved => s.bits as u16,
         Format::Microwire => 8,
-        Format::Reserved => s.bits as u16,
     }
 }
 
@@ -166,31 +123,20 @@ pub fn width_of(s: Settings) -> u16
 pub fn capture_width(s: Settings) -> u8
     ensures { result ≡ capture_width s }
 {
-    let slave = s.slave;
-    let f = s.format;
-    match f {
-        Format::Motorola => s.bits,
-        Format::Ti => s.bits,
-        Format::Microwire => if slave { 8 } else { s.bits },
-        Format::Reserved => s.bits,
+    match s.format {
+        Format::Microwire if s.slave => 8,
+        _ => s.bits,
     }
 }
 
 fn motorola_levels(phase: bool, b: u8, n: u16) -> Levels
     ensures { result ≡ motorola_levels phase b n }
 {
-    let inside = n <= 2 * (b as u16);
     let odd = n % 2 == 1;
     let even = (n % 2 == 0) & (0 < n);
-    if phase {
-        return Levels {
-            clk: odd & inside,
-            fss: false,
-            released: false,
-        };
-    }
+    let active = if phase { odd } else { even };
     Levels {
-        clk: even & inside,
+        clk: active & (n <= 2 * b as u16),
         fss: false,
         released: false,
     }
@@ -220,12 +166,10 @@ fn microwire_levels(n: u16) -> Levels
 pub fn levels_of(s: Settings, joined: bool, slot: Slots) -> Levels
     ensures { result ≡ levels_of s joined slot }
 {
-    let n = slot.0;
-    let f = s.format;
-    match f {
-        Format::Motorola => motorola_levels(s.phase, s.bits, n),
-        Format::Ti => ti_levels(joined, n),
-        Format::Microwire => microwire_levels(n),
+    match s.format {
+        Format::Motorola => motorola_levels(s.phase, s.bits, slot.0),
+        Format::Ti => ti_levels(joined, slot.0),
+        Format::Microwire => microwire_levels(slot.0),
         Format::Reserved => Levels {
             clk: false,
             fss: true,
@@ -240,8 +184,7 @@ pub fn data_on(f: Format, v: Levels, n: Slots) -> bool
 {
     match f {
         Format::Motorola => 0 < n.0,
-        Format::Ti => !v.released,
-        Format::Microwire => !v.released,
+        Format::Ti | Format::Microwire => !v.released,
         Format::Reserved => false,
     }
 }
