@@ -1,5 +1,5 @@
 -- The engine's state, and the steps of its shift registers.
-use Rattle.std.specs.Prelude.{ℕ, ◌+◌, Bool, true, false, ◌&&◌, ◌||◌, List, [], ◌∷◌, Option, Some, None, ltb, eqb}
+use Rattle.std.specs.Prelude.{ℕ, ◌+◌, Bool, true, false, ◌&&◌, ◌||◌, None, ltb, eqb}
 use Rattle.std.specs.Bool.{then_some}
 use Rattle.registers.specs.Choose.{pick}
 use Rattle.registers.specs.Time.{cycles, slots}
@@ -82,11 +82,6 @@ unfoldable pub completes : ℕ → Shift → Bool
 completes width x = eqb (x.captured + 1) width
 
 -- A step gives the engine, whether it took the next word to send, and the word that it completed, if any.
-
--- The words of an answer that is a word or none.
-abbrev pub words_of : Option ℕ → List ℕ
-words_of None = []
-words_of (Some w) = w ∷ []
 
 -- No word is taken, and none is completed.
 abbrev pub no_word : Engine → Step

@@ -4,14 +4,13 @@ use mathlib.Core.Path.{◌≡◌, sym}
 use mathlib.Core.Bool.{Bool, true, false, ◌&&◌, ◌||◌, not}
 use native.Mathlib.Omega.{arith}
 use native.Mathlib.Decide.{dec_lt}
-use lib.Dec.{T, eqb}
+use lib.Dec.{T, eqb, ltb}
 use lib.ListN.{get_or-eq_default}
 use borrow.Author.Tests.{lt-ltb, le-ltb, eq-eqb, ne_eqb}
 use mir.Val.{Fits}
 use mir.Syntax.{w64}
 use Rattle.registers.specs.Choose.{pick}
 use Rattle.registers.specs.Offsets.{register_of, identity_words, identity_of}
-use lib.Dec.{ltb}
 use Rattle.registers.specs.declared.offsets.Register.TheVariants.{Identity, Reserved, Outside}
 
 pub register_odd : (o : ℕ) → (o % 4 ≡ 0 → ⊥) → Outside ≡ register_of o

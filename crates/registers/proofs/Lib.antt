@@ -1,7 +1,7 @@
 mod BitLaws
 mod Decoder
 mod Products
-mod Results
+pub mod Results
 mod Arrivals
 pub mod Picks
 pub mod ResetValues

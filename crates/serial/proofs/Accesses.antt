@@ -1,26 +1,29 @@
 -- Accesses to a device: their refusal numbers are at most 8, and neither a refused access nor a read of a register other than
 -- DR changes anything.
 use Prim.Native.Nat.{ℕ, ◌≤◌}
-use mathlib.Core.Path.{◌≡◌, refl, ap, ◌∙◌}
+use mathlib.Core.Path.{◌≡◌, refl, sym, ap, ◌∙◌}
 use mathlib.Core.Bool.{Bool, true, false, not, ◌&&◌, ◌||◌, true≢false}
 use native.Mathlib.Omega.{arith}
 use lib.ListN.{length}
 use lib.Dec.{leb, eqb}
 use Rattle.registers.specs.Choose.{pick}
 use Rattle.registers.specs.Bits.{bit_at, bits_differ}
-use Rattle.registers.specs.Refusals.{refusal_of, Word, Refused}
+use Rattle.registers.specs.Refusals.{number, refusal_of, Word, Refused}
+use Rattle.registers.specs.Access as registers
 use Rattle.registers.specs.Model.{Model}
 use Rattle.registers.specs.Offsets.{register_of}
 use Rattle.registers.specs.Settings.{enabled_of, settings_of, permitted_of}
 use Rattle.registers.specs.Access.{read_refusal, read_word, read_done, read_model, write_done, write_model, read_answer, bits_beyond, write_access, cr0_rule, cr1_rule, cpsr_rule, dr_rule, write_rule, write_refusal}
 use Rattle.registers.specs.declared.Control.{Control}
+use Rattle.registers.specs.declared.refusals.Refusal.{Refusal}
+use Rattle.registers.proofs.Results.{number_given}
 use Rattle.registers.specs.declared.offsets.Register.{Register}
 use Rattle.registers.specs.declared.offsets.Register.TheVariants.{Cr0, Cr1, Dr, Sr, Cpsr, Imsc, Ris, Mis, Icr, Dmacr, Identity, Reserved, Outside}
 use Rattle.serial.specs.Cycle.{DeviceModel, active_device, with_registers, with_engine}
 use Rattle.registers.proofs.Picks.{pick_no}
 use Rattle.registers.proofs.Accesses.{read_either}
 use Rattle.frames.specs.Engine.{cleared, while_active}
-use Rattle.serial.specs.Access.{read_answer_of, read_device, write_refusal_of, engine_after, write_device}
+use Rattle.serial.specs.Access.{read_answer_of, read_device, write_refusal_of, engine_after, write_device, Write}
 use Rattle.frames.specs.declared.engine.Engine.{Engine}
 
 pick_most : (t : Bool) (a b : ℕ) → a ≤ 8 → b ≤ 8 → pick t a b ≤ 8
@@ -128,6 +131,16 @@ write_same d o v h =
     let m = d.registers in
     ap (λ (x : Model). with_engine (with_registers d x) (engine_after m x d.engine)) (pick_no (write_done m (register_of o) v) m h)
     ∙ ap (with_engine d) (same_engine m d.engine)
+
+-- So does a write that the register file refuses.
+pub write_refused : (d : DeviceModel) (o v : ℕ) (e : Refusal) (m : Model) → registers.Write d.registers (active_device d) o v (number e) m → Write d o v (number e) (with_registers d m)
+unfolding write_refusal_of write_model
+write_refused d o v e m w =
+    let h : eqb (write_refusal d.registers (active_device d) (register_of o) v) 0 ≡ false = rw (← w.refusal) (number_given e) in
+    record {
+      refusal = w.refusal;
+      device = ap (with_registers d) (w.model ∙ pick_no (write_done d.registers (register_of o) v) d.registers h) ∙ sym (write_same d o v h);
+    }
 
 -- A read of a register other than DR changes nothing: a host may poll SR -----------------------------------------------
 

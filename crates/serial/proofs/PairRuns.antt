@@ -1,4 +1,5 @@
 -- Two wired devices: the lines of one, one cycle more, and the run of each with the pins that it reads.
+use Rattle.std.specs.Prelude.{Option}
 use Prim.Native.Nat.{ℕ, zero, suc, ◌+◌, ◌-◌, ◌<◌}
 use mathlib.Core.Path.{◌≡◌, refl, sym, ap, ap₂, ◌∙◌}
 use mathlib.Core.List.{List, [], ◌∷◌, ◌++◌, append-nil}
@@ -6,7 +7,7 @@ use native.Mathlib.Nat.{zero-add, suc-add}
 use native.Mathlib.Numerals.{add-one}
 use lib.ListN.{length, drop}
 use Rattle.registers.specs.Choose.{words_of}
-use Rattle.serial.specs.Cycle.{DeviceModel, device_of, completed_of, lost_of, cycle_of, CycleOf, not_run, after, completed_in, lost_in}
+use Rattle.serial.specs.Cycle.{DeviceModel, device_of, completed_of, lost_of, cycle_of, CycleOf, after, completed_in, lost_in}
 use Rattle.serial.specs.Lost.{losses_of, highest, noted}
 use Rattle.serial.specs.Pair.{wire, PairModel, pair_cycle, pair_run, swapped, pins_read, pair_lost, pair_of, PairRun, PairRunIsRun}
 use Rattle.serial.specs.Demand3.{received, LostOfDue}
@@ -14,7 +15,6 @@ use Rattle.serial.specs.Demand3.Which.{master, slave}
 use Rattle.serial.proofs.Losses.{lost_in_run, Noting, noting_begin, noting_turn, words_join}
 use Rattle.serial.proofs.Swap.{swap_run}
 use Rattle.serial.specs.declared.Device.{Device}
-use Rattle.serial.specs.declared.cycle.Cycled.{Cycled}
 use Rattle.serial.specs.declared.lost.Losses.{Losses}
 use Rattle.serial.specs.declared.pair.Wired.{Wired}
 use Rattle.frames.specs.declared.lines.Pins.{Pins}
@@ -94,26 +94,17 @@ turn p q q' l m l' m' i x y r h e f g j k =
       second = rw (add-one i) at (noting_turn (pair_lost i (swapped p)) (pair_lost (suc i) (swapped p)) _ m m' i y r.second h k (g ∙ ap (λ (z : PairModel). lost_of z.first (wire z.second.lines)) s) (lost_more i (swapped p)));
     })
 
--- Two devices of the code as a pair.
-abbrev pub both : Device → Device → PairModel
-both d e = record { first = device_of d; second = device_of e }
-
 -- One turn: a cycle of each device, and what it lost noted.
-pub pairing_turn : (p : PairModel) (d e : Device) (l m l' m' : Losses) (i : ℕ) (x y : Pins) (r s : Cycled) → Pairing p (both d e) l m i → i < highest
-    → x ≡ wire e.lines → y ≡ wire d.lines → CycleOf (device_of d) x r → CycleOf (device_of e) y s → l' ≡ noted l r.lost → m' ≡ noted m s.lost
-    → Pairing p (both r.device s.device) l' m' (i + 1)
-unfolding pair_cycle
-pairing_turn p d e l m l' m' i x y r s g h a b c k =
-    let a' : x ≡ wire (device_of e).lines = a ∙ ap wire (sym (device_lines e)) in
-    let b' : y ≡ wire (device_of d).lines = b ∙ ap wire (sym (device_lines d)) in
-    turn p (both d e) (both r.device s.device) l m l' m' i r.lost s.lost g h
-    (ap₂ (λ (t u : DeviceModel). record { first = t; second = u }) (c.device ∙ ap (cycle_of (device_of d)) a') (k.device ∙ ap (cycle_of (device_of e)) b'))
-    (c.lost ∙ ap (lost_of (device_of d)) a') (k.lost ∙ ap (lost_of (device_of e)) b')
+pub pairing_turn : (p : PairModel) (w w' : Wired) (l m l' m' : Losses) (i : ℕ) (x y : Pins) (a b : Option ℕ) → Pairing p (pair_of w) l m i → i < highest
+    → x ≡ wire w.second.lines → y ≡ wire w.first.lines → CycleOf (device_of w.first) x a (device_of w'.first) → CycleOf (device_of w.second) y b (device_of w'.second)
+    → l' ≡ noted l a → m' ≡ noted m b → Pairing p (pair_of w') l' m' (i + 1)
+unfolding pair_cycle pair_of
+pairing_turn p w w' l m l' m' i x y a b g h e f c k =
+    let e' : x ≡ wire (device_of w.second).lines = e ∙ ap wire (sym (device_lines w.second)) in
+    let f' : y ≡ wire (device_of w.first).lines = f ∙ ap wire (sym (device_lines w.first)) in
+    turn p (pair_of w) (pair_of w') l m l' m' i a b g h
+    (ap₂ (λ (t u : DeviceModel). record { first = t; second = u }) (c.device ∙ ap (cycle_of (device_of w.first)) e') (k.device ∙ ap (cycle_of (device_of w.second)) f'))
+    (c.lost ∙ ap (lost_of (device_of w.first)) e') (k.lost ∙ ap (lost_of (device_of w.second)) f')
 
-pub pairing_end : (w : Wired) (r s : Cycled) (d e : Device) (l m : Losses) (i n : ℕ) → r ≡ not_run w.first → s ≡ not_run w.second → Pairing (both r.device s.device) (both d e) l m i → i ≡ n
-    → PairRun n (pair_of w) (record { first = l; second = m; pair = record { first = d; second = e } })
-unfolding pair_of
-pairing_end w r s d e l m i n a b g k =
-    let t : ◌≡◌ {A = PairModel} (both r.device s.device) (both w.first w.second) = ap₂ (λ (x y : Cycled). both x.device y.device) a b in
-    let h = rw (t, k) at g in
-    record { pair = h.pair; first = h.first.tally; second = h.second.tally }
+pub pairing_end : (p q : PairModel) (l m : Losses) (i n : ℕ) → Pairing p q l m i → i ≡ n → PairRun n p (record { first = l; second = m }) q
+pairing_end p q l m i n g e = let h = rw e at g in record { pair = h.pair; first = h.first.tally; second = h.second.tally }

@@ -85,9 +85,9 @@ lost_if m None = []
 lost_if m (Some w) = lost_word m w
 
 -- What the code gives for this: the words lost, and the register file after it.
-pub record ReceiveIf (m : Model) (completed : Option ℕ) (lost : List ℕ) (m' : Model) : Type 0 where
+pub record ReceiveIf (m : Model) (completed : Option ℕ) (r : List ℕ) (m' : Model) : Type 0 where
   pub registers : m' ≡ receive_if m completed
-  pub lost : lost ≡ lost_if m completed
+  pub lost : r ≡ lost_if m completed
 
 -- The register file after a step.
 abbrev pub step_model : Model → Step → Model
@@ -130,9 +130,9 @@ cycle_of d pins =
     }
 
 -- What the code gives for a cycle: the word lost in it, if any, and the device after it.
-pub record CycleOf (d : DeviceModel) (pins : Pins) (lost : Option ℕ) (d' : DeviceModel) : Type 0 where
+pub record CycleOf (d : DeviceModel) (pins : Pins) (r : Option ℕ) (d' : DeviceModel) : Type 0 where
   pub device : d' ≡ cycle_of d pins
-  pub lost : words_of lost ≡ lost_of d pins
+  pub lost : words_of r ≡ lost_of d pins
 
 -- A run: one cycle for each entry of a list of pins; it gives the device after each cycle.
 abbrev pub run : DeviceModel → List Pins → List DeviceModel

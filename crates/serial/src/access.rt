@@ -1,4 +1,6 @@
 // Register accesses to a device. They fall between cycles: pins and lines stay.
+#![tactic(auto, unfolding(crate::specs::Cycle::device_of, crate::specs::Access::read_answer_of, crate::specs::Access::read_device, crate::specs::Access::write_refusal_of, crate::specs::Access::write_device, crate::specs::Access::engine_after))]
+
 ghost use Rattle.std.specs.Prelude.{◌≡◌};
 ghost use Rattle.registers.specs.Refusals.{answer_of, refusal_number};
 ghost use Rattle.serial.specs.Cycle.{device_of};

@@ -1,4 +1,6 @@
 // One cycle of a device.
+#![tactic(auto, unfolding(crate::specs::Cycle::device_of, crate::specs::Cycle::device_step, crate::specs::Cycle::step_of, crate::specs::Cycle::tick_of, crate::specs::Cycle::end_of, crate::specs::Cycle::take_if, crate::specs::Cycle::cycle_of))]
+
 ghost use Rattle.std.specs.Prelude.{◌≡◌};
 ghost use Rattle.registers.specs.Choose.{words_of};
 ghost use Rattle.registers.specs.Model.{model_of};

@@ -8,13 +8,13 @@ ghost use Rattle.serial.specs.Cycle.{device_of, reset_device};
 // What a slave does at the edges of its pins.
 pub mod slave;
 // One cycle of a device.
-pub mod cycle;
+mod cycle;
 // The words lost to overrun.
 pub mod lost;
 // Reads and writes.
-pub mod access;
+mod access;
 // Which devices are sound.
-pub mod sound;
+mod sound;
 // Two wired devices.
 pub mod pair;
 
@@ -42,6 +42,7 @@ pub struct Device {
 
 impl Device {
     // A device after reset, of the edition asked for.
+    #[tactic(auto, unfolding(crate::specs::Cycle::device_of))]
     pub fn reset(edition2: bool) -> Device
         ensures { device_of result ≡ reset_device edition2 }
     {

@@ -1,4 +1,6 @@
 // Two devices wired together.
+#![tactic(auto, unfolding(crate::specs::Pair::wire))]
+
 ghost use Rattle.std.specs.Prelude.{◌≡◌};
 ghost use Rattle.serial.specs.Pair.{wire, pair_of, PairRun};
 

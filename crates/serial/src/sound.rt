@@ -1,4 +1,6 @@
 // Whether a device is sound.
+#![tactic(auto, unfolding(crate::specs::Cycle::device_of, crate::specs::Sound::stopped_sound, crate::specs::Sound::running_sound, crate::specs::Sound::engine_sound, crate::specs::Sound::sound_device))]
+
 ghost use Rattle.std.specs.Prelude.{◌≡◌};
 ghost use Rattle.serial.specs.Cycle.{device_of};
 ghost use Rattle.serial.specs.Sound.{stopped_sound, running_sound, engine_sound, sound_device};
