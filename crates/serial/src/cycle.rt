@@ -87,11 +87,12 @@ impl Device {
         let waiting = self.registers.waiting();
         let next = self.registers.next_word();
         let step = step_of(s, self.engine, self.pins, pins, waiting, next);
+        let after = end_of(s, step.engine);
         self.lines = lines_of(s, step.engine);
-        self.engine = end_of(s, step.engine);
+        self.engine = after;
         take_if(&mut self.registers, step.takes);
         let lost = receive_if(&mut self.registers, step.completed);
-        self.registers.end_cycle(self.engine.frame);
+        self.registers.end_cycle(after.frame);
         self.pins = self.pins.follow(pins);
         lost
     }

@@ -7,6 +7,6 @@ pub returns : goal.returns
 unfolding device_of cycle_of device_step
 returns c =
     record {
-      device = rw (c.follow-self.ensures, c.end_cycle.ensures, c.receive_if-lost.ensures.registers, c.take_if.ensures, c.end_of-self.ensures, c.lines_of-self.ensures, c.step_of-step.ensures, c.next_word-next.ensures, c.waiting-waiting.ensures, c.settings-s.ensures);
+      device = rw (c.follow-self.ensures, c.end_cycle.ensures, c.receive_if-lost.ensures.registers, c.take_if.ensures, c.end_of-after.ensures, c.lines_of-self.ensures, c.step_of-step.ensures, c.next_word-next.ensures, c.waiting-waiting.ensures, c.settings-s.ensures);
       lost = c.receive_if-lost.ensures.lost ∙ rw (c.take_if.ensures, c.step_of-step.ensures, c.next_word-next.ensures, c.waiting-waiting.ensures, c.settings-s.ensures) (lost_step _ _);
     }
