@@ -1,7 +1,6 @@
 mod BitLaws
-mod Decoder
 mod Products
-mod Results
+mod Numbers
 mod Arrivals
 pub mod Picks
 pub mod ResetValues
