@@ -1,6 +1,6 @@
 // A queue of at most eight 16-bit words, first in, first out.
 // Every function takes any value: a stored count above eight acts as eight.
-#![tactic(auto)]
+#![tactic(auto, using(crate::proofs::Contents::count_holds, crate::proofs::Contents::empty_holds, crate::proofs::Contents::word_held))]
 
 ghost use Rattle.std.specs.Prelude.{◌≡◌};
 ghost use Rattle.queue.specs.Fifo.{contents, word_at, Empty, Count, Add, TakeOldest, Restored};

@@ -1,7 +1,6 @@
 mod BitLaws
-mod Decoder
 mod Products
-pub mod Results
+pub mod Numbers
 mod Arrivals
 pub mod Picks
 pub mod ResetValues

@@ -1,4 +1,6 @@
 // Reading and writing the registers.
+#![tactic(auto, using(crate::specs::Model::Inside::model_of_lem, crate::proofs::Numbers::number_given), unfolding(crate::specs::Access::read_answer, crate::specs::Access::read_model, crate::specs::Access::data_taken, crate::specs::Access::write_refusal, crate::specs::Access::write_model, crate::specs::Access::cr0_rule, crate::specs::Access::cr1_rule, crate::specs::Access::cpsr_rule, crate::specs::Access::dr_rule, crate::specs::Access::cr0_written, crate::specs::Access::cr1_written, crate::specs::Access::cpsr_written, crate::specs::Access::icr_written, crate::specs::Access::dr_written, crate::specs::Access::imsc_written, crate::specs::Access::dmacr_written))]
+
 ghost use Rattle.std.specs.Prelude.{◌≡◌};
 ghost use Rattle.registers.specs.Model.{model_of};
 ghost use Rattle.registers.specs.Refusals.{answer_of, refusal_number};

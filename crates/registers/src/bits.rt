@@ -1,4 +1,6 @@
 // The bits of a word, numbered from 0, the least significant.
+#![tactic(auto, using(crate::proofs::BitLaws::bit_past))]
+
 ghost use Rattle.std.specs.Prelude.{◌≡◌, ℕ};
 ghost use Rattle.registers.specs.Bits.{bit_at, bits_differ, ValueOf};
 

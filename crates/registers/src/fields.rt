@@ -1,4 +1,6 @@
 // The register file as the fields that a record stores, and back.
+#![tactic(auto, using(crate::specs::Model::Inside::model_of_lem), unfolding(crate::specs::Fields::places, crate::specs::Fields::fields_of, crate::specs::Fields::restored))]
+
 ghost use Rattle.std.specs.Prelude.{◌≡◌};
 ghost use Rattle.queue.specs.Fifo.{contents};
 ghost use Rattle.registers.specs.Model.{model_of};

@@ -1,4 +1,6 @@
 // The status register and the interrupts.
+#![tactic(auto, using(crate::specs::Model::Inside::model_of_lem), unfolding(crate::specs::Flags::busy_of, crate::specs::Flags::status_of, crate::specs::Flags::raw_of, crate::specs::Flags::masked_of, crate::specs::Flags::interrupt_word))]
+
 ghost use Rattle.std.specs.Prelude.{◌≡◌};
 ghost use Rattle.registers.specs.Model.{model_of};
 ghost use Rattle.registers.specs.Flags.{busy_of, status_of, raw_of, masked_of, interrupt_word};

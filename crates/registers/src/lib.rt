@@ -1,6 +1,6 @@
 // The register file of the PL022, with its two queues of eight words.
 // Every function takes any value of its parameters; its contract is about the model in specs/Model.antt.
-#![tactic(auto)]
+#![tactic(auto, using(crate::specs::Model::Inside::model_of_lem))]
 
 ghost use Rattle.std.specs.Prelude.{◌≡◌};
 ghost use Rattle.registers.specs.Model.{model_of, reset_registers};

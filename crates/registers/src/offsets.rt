@@ -1,4 +1,6 @@
 // Which register an offset names.
+#![tactic(auto, unfolding(crate::specs::Offsets::register_of))]
+
 ghost use Rattle.std.specs.Prelude.{◌≡◌};
 ghost use Rattle.registers.specs.Offsets.{register_of, identity_of};
 

@@ -1,4 +1,6 @@
 // What CR0, CR1 and CPSR mean.
+#![tactic(auto, using(crate::specs::Model::Inside::model_of_lem, crate::proofs::Products::divisor_most), unfolding(crate::specs::Settings::format_of, crate::specs::Settings::permitted_of, crate::specs::Settings::bits_of, crate::specs::Settings::divisor_of, crate::specs::Settings::enabled_of, crate::specs::Settings::settings_of))]
+
 ghost use Rattle.std.specs.Prelude.{◌≡◌};
 ghost use Rattle.registers.specs.Model.{model_of};
 ghost use Rattle.registers.specs.Settings.{format_of, permitted_of, DivisorOf, settings_of, enabled_of, enabled};

@@ -1,4 +1,6 @@
 // Whether a register file is sound.
+#![tactic(auto, using(crate::specs::Model::Inside::model_of_lem), unfolding(crate::specs::Sound::control_sound, crate::specs::Sound::masks_sound, crate::specs::Sound::queues_sound, crate::specs::Sound::count_sound, crate::specs::Sound::sound_registers))]
+
 ghost use Rattle.std.specs.Prelude.{◌≡◌};
 ghost use Rattle.registers.specs.Model.{model_of};
 ghost use Rattle.registers.specs.Sound.{control_sound, masks_sound, queues_sound, count_sound, sound_registers};

@@ -1,4 +1,6 @@
 // Lengths in cycles, lengths in slots and h are three types, so that none is taken for another.
+#![tactic(auto, unfolding(crate::specs::Time::cycles_of))]
+
 ghost use Rattle.std.specs.Prelude.{◌≡◌};
 ghost use Rattle.registers.specs.Time.{cycles_of};
 

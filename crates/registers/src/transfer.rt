@@ -1,4 +1,6 @@
 // What the serial engine does to the register file.
+#![tactic(auto, using(crate::specs::Model::Inside::model_of_lem, crate::proofs::Arrivals::some_by), unfolding(crate::specs::Transfer::waiting_of, crate::specs::Transfer::next_word, crate::specs::Transfer::take_word, crate::specs::Transfer::receive_word, crate::specs::Transfer::lost_word, queue::specs::Fifo::dropped, crate::specs::Transfer::idles_of, crate::specs::Transfer::limit_of, crate::specs::Transfer::timeout_of, crate::specs::Transfer::end_cycle, crate::specs::Time::cycles_of))]
+
 ghost use Rattle.std.specs.Prelude.{◌≡◌};
 ghost use Rattle.registers.specs.Model.{model_of};
 ghost use Rattle.registers.specs.Choose.{words_of};

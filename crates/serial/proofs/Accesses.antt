@@ -16,7 +16,7 @@ use Rattle.registers.specs.Settings.{enabled_of, settings_of, permitted_of}
 use Rattle.registers.specs.Access.{read_refusal, read_word, read_done, read_model, write_done, write_model, read_answer, bits_beyond, write_access, cr0_rule, cr1_rule, cpsr_rule, dr_rule, write_rule, write_refusal}
 use Rattle.registers.specs.declared.Control.{Control}
 use Rattle.registers.specs.declared.refusals.Refusal.{Refusal}
-use Rattle.registers.proofs.Results.{number_given}
+use Rattle.registers.proofs.Numbers.{number_given}
 use Rattle.registers.specs.declared.offsets.Register.{Register}
 use Rattle.registers.specs.declared.offsets.Register.TheVariants.{Cr0, Cr1, Dr, Sr, Cpsr, Imsc, Ris, Mis, Icr, Dmacr, Identity, Reserved, Outside}
 use Rattle.serial.specs.Cycle.{DeviceModel, active_device, with_registers, with_engine}
