@@ -22,7 +22,8 @@ pub fn cut(width: u8, word: u16) -> u16
     ensures { result ≡ cut width word }
 {
     if width < 16 {
-        word % (1u16 << width)
+        let size = 1u32 << (width as u32);
+        (word as u32 % size) as u16
     } else {
         word
     }
@@ -32,5 +33,5 @@ pub fn cut(width: u8, word: u16) -> u16
 pub fn shifted_in(word: u16, bit: bool) -> u16
     ensures { result ≡ shifted_in word bit }
 {
-    (word << 1) + bit as u16
+    word.wrapping_mul(2) + bit as u16
 }

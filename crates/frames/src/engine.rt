@@ -46,6 +46,7 @@ pub struct Step {
 }
 
 impl Shift {
+    // Empty shift registers.
     pub fn clear() -> Shift
         ensures { result ≡ clear_shift }
     {
@@ -115,6 +116,7 @@ impl Shift {
 }
 
 impl Engine {
+    // A clear engine.
     pub fn cleared() -> Engine
         ensures { result ≡ cleared }
     {

@@ -77,7 +77,7 @@ fn microwire_event(b: u8, n: u16) -> Event
         _ if n < 16 && n % 2 == 0 => Event::Drive(n / 2),
         _ if n < 16 => Event::Pause,
         16 => Event::Quiet,
-        _ if n < 18 + end && 19 <= n && n % 2 == 1 => Event::Capture,
+        _ if 19 <= n && n < 18 + end && n % 2 == 1 => Event::Capture,
         _ if n == 18 + end => Event::Chain(Slots(0)),
         _ if n == 19 + end => Event::Release,
         _ => Event::Pause,
