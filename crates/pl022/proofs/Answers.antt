@@ -13,10 +13,6 @@ use Rattle.device_record.specs.Calls.{run_lost, pair_call_lost, ReadCall, RunCal
 use Rattle.device_record.specs.declared.calls.RunAnswer.{RunAnswer}
 use Rattle.device_record.specs.declared.calls.PairAnswer.{PairAnswer}
 use Rattle.device_record.specs.declared.run.Stop.{Stop}
-use Rattle.text.specs.Write.{WrittenNumbers, written_numbers, WriteText}
-use Rattle.text.specs.Read.{ReadingNumbers, reading_numbers, ReadText}
-use Rattle.text.specs.declared.write.Written.{Written}
-use Rattle.text.specs.declared.read.Reading.{Reading}
 use Rattle.judge.specs.Shared.{difference}
 use Rattle.judge.specs.Judge.{Judged, verdict_numbers}
 use Rattle.judge.specs.declared.judge.Verdict.{Verdict}
@@ -59,26 +55,6 @@ pair_numbers one two n a one' two' g =
       second_lost = lost_numbers_lem a.second (pair_call_lost two one n) g.second_lost;
       first_left = g.first_left;
       second_left = g.second_left;
-    }
-
--- Either case of a text's answer.
-
-pub text_written : (cs ps buffer : List ℕ) (a : Written) (buffer' : List ℕ) → WriteText cs ps buffer a buffer' → (b : Written) → a ≡ b
-    → WriteTextResult cs ps buffer (record { refusal = (written_numbers b).refusal; count = (written_numbers b).bytes }) buffer'
-text_written cs ps buffer a buffer' g b q =
-    let e = ap written_numbers (sym q ∙ g.answer) in
-    record { refusal = ap (λ (n : WrittenNumbers). n.refusal) e; count = ap (λ (n : WrittenNumbers). n.bytes) e; left = g.left }
-
-pub text_read : (text cb sb : List ℕ) (a : Reading) (cb' sb' : List ℕ) → ReadText text cb sb a cb' sb' → (b : Reading) → a ≡ b
-    → ReadTextResult text cb sb (record { refusal = (reading_numbers b).refusal; cycles = (reading_numbers b).cycles; starts = (reading_numbers b).starts }) cb' sb'
-text_read text cb sb a cb' sb' g b q =
-    let e = ap reading_numbers (sym q ∙ g.answer) in
-    record {
-      refusal = ap (λ (n : ReadingNumbers). n.refusal) e;
-      cycles = ap (λ (n : ReadingNumbers). n.cycles) e;
-      starts = ap (λ (n : ReadingNumbers). n.starts) e;
-      cycles_left = g.cycles;
-      starts_left = g.starts;
     }
 
 -- Each case of a verdict.

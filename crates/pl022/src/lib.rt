@@ -11,8 +11,6 @@ use device_record::calls::RunAnswer;
 use device_record::run::Stop;
 use judge::judge::Verdict;
 use registers::access::Answer;
-use text::read::Reading;
-use text::write::Written;
 
 // What a read answers.
 #[repr(C)]
@@ -179,14 +177,13 @@ pub extern "C" fn pl022_pair_run(first: &mut [u8], second: &mut [u8], cycles: u6
 pub extern "C" fn pl022_write_text(lines: &[u8], places: &[u32], text: &mut [u8]) -> CountResult
     ensures { WriteTextResult lines.now places.now text.old result text.new }
 {
-    let answer = text::write::write_text(lines, places, text);
-    match answer {
-        Written::Bytes(count) => CountResult {
+    match text::write::write_text(lines, places, text) {
+        Ok(count) => CountResult {
             refusal: 0,
             count: count as u64,
         },
-        Written::Refused(refusal) => CountResult {
-            refusal: refusal as u64,
+        Err(refusal) => CountResult {
+            refusal: u8::from(refusal) as u64,
             count: 0,
         },
     }
@@ -197,15 +194,14 @@ pub extern "C" fn pl022_write_text(lines: &[u8], places: &[u32], text: &mut [u8]
 pub extern "C" fn pl022_read_text(text: &[u8], lines: &mut [u8], starts: &mut [u32]) -> TextResult
     ensures { ReadTextResult text.now lines.old starts.old result lines.new starts.new }
 {
-    let answer = text::read::read_text(text, lines, starts);
-    match answer {
-        Reading::Recording(cycles, line_starts) => TextResult {
+    match text::read::read_text(text, lines, starts) {
+        Ok(found) => TextResult {
             refusal: 0,
-            cycles: cycles as u64,
-            starts: line_starts as u64,
+            cycles: found.cycles as u64,
+            starts: found.starts as u64,
         },
-        Reading::Refused(refusal) => TextResult {
-            refusal: refusal as u64,
+        Err(refusal) => TextResult {
+            refusal: u8::from(refusal) as u64,
             cycles: 0,
             starts: 0,
         },

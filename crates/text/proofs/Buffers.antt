@@ -1,11 +1,12 @@
 -- Lent buffers: what is written part by part, from the start on.
-use Prim.Native.Nat.{ℕ, zero, suc, ◌+◌, ◌≤◌, ◌<◌}
+use Prim.Native.Nat.{ℕ, suc, ◌+◌, ◌≤◌, ◌<◌}
 use mathlib.Core.Path.{◌≡◌, refl, sym, ap, ◌∙◌}
 use mathlib.Core.List.{List, [], ◌∷◌, ◌++◌, map, append_assoc, append-nil}
 use native.Mathlib.Omega.{arith}
 use native.Mathlib.Numerals.{add-one}
 use lib.ListN.{length, get_or, take, drop, set, length-set, length-append, length-map, take-append-drop}
 use lib.Seq.{paste, paste-zero, paste-suc, length-paste, take-paste, drop-paste, take-length, length-take-le, drop-drop, set_split, append_snoc}
+use Rattle.std.proofs.lemmas.List.{get_or-map}
 use Rattle.text.specs.Text.{over, Put}
 
 pub put_none : (before : List ℕ) (at : ℕ) → Put before at [] at before
@@ -103,26 +104,18 @@ module _ (before : List ℕ) (at : ℕ) (part now : List ℕ) (i : ℕ) (l : Put
       let e : i ≡ length part = omega arith in
       record { next = rw e; put = l.front ∙ ap (paste before at part) e }
 
-get_d_map : (f : ℕ → ℕ) (l rest : List ℕ) (i : ℕ) → i < length l → get_or (map f l ++ rest) i 0 ≡ f (get_or l i 0)
-get_d_map f [] rest i h = absurd (omega arith)
-get_d_map f (x ∷ xs) rest zero h = refl
-get_d_map f (x ∷ xs) rest (suc i) h = get_d_map f xs rest i (omega arith)
+-- A list is written element by element, by f.
+module _ (f : ℕ → ℕ) (before : List ℕ) (at : ℕ) (list : List ℕ) where
+  pub mapping_begin : at + length list ≤ length before → Putting before at (map f list) before 0
+  mapping_begin h = putting_begin before at (map f list) (rw length-map h)
 
-pub length_mapped : (f : ℕ → ℕ) (l rest : List ℕ) → length (map f l ++ rest) ≡ length l + length rest
-length_mapped f l rest = length-append (map f l) rest ∙ ap (λ (n : ℕ). n + length rest) (length-map l f)
+  module _ (now : List ℕ) (i : ℕ) (p : Putting before at (map f list) now i) where
+    pub mapping_turn : (x : ℕ) → i < length list → x ≡ f (get_or list i 0) → Putting before at (map f list) (set now (at + i) x) (i + 1)
+    mapping_turn x h e = putting_turn before at (map f list) now i p x (rw length-map h) (e ∙ sym (get_or-map f list i 0 0 h))
 
--- The first i elements of a list are written by f, from `at` on; `rest` is to follow the last.
-pub record Mapping (f : ℕ → ℕ) (rest before : List ℕ) (at : ℕ) (list now : List ℕ) (i : ℕ) : Type 0 where
-  pub within : i ≤ length list
-  pub room : at + (length list + length rest) ≤ length before
-  pub same : length now ≡ length before
-  pub part : Putting before at (map f list ++ rest) now i
-
-pub mapping_begin : (f : ℕ → ℕ) (rest before : List ℕ) (at : ℕ) (list : List ℕ) → at + (length list + length rest) ≤ length before → Mapping f rest before at list before 0
-mapping_begin f rest before at list h = record { within = omega arith; room = h; same = refl; part = putting_begin before at (map f list ++ rest) (rw (length_mapped f list rest) h) }
-
-pub mapping_turn : (f : ℕ → ℕ) (rest before : List ℕ) (at : ℕ) (list now : List ℕ) (i : ℕ) → Mapping f rest before at list now i → (x : ℕ) → i < length list → x ≡ f (get_or list i 0) → Mapping f rest before at list (set now (at + i) x) (i + 1)
-mapping_turn f rest before at list now i m x h e =
-    let l = length_mapped f list rest in
-    let p = putting_turn before at (map f list ++ rest) now i m.part x (omega arith) (e ∙ sym (get_d_map f list rest i h)) in
-    record { within = omega arith; room = m.room; same = p.same; part = p }
+    pub mapping_end : length list ≤ i → Put before at (map f list) (at + length list) now
+    mapping_end h =
+        let l = length-map list f in
+        let w = p.within in
+        let e : i ≡ length list = omega arith in
+        rw e at (putting_end before at (map f list) now i p (omega arith))

@@ -2,55 +2,29 @@
 use Prim.Native.Nat.{ℕ, zero, suc, ◌+◌, ◌-◌, ◌≤◌, ◌<◌}
 use mathlib.Core.Path.{◌≡◌, refl, sym, ap, ◌∙◌}
 use mathlib.Core.Bool.{Bool, true, false, true≢false, not, ◌||◌}
-use mathlib.Core.List.{List, [], ◌∷◌, ◌++◌, map, append-nil}
+use mathlib.Core.List.{List, [], ◌∷◌, ◌++◌, map}
 use native.Mathlib.Omega.{arith}
 use native.Mathlib.Decide.{dec_lt}
 use native.Mathlib.Nat.{add-zero}
 use native.Mathlib.Numerals.{add-one}
 use lib.Dec.{ltb, eqb}
 use lib.ListN.{length, get_or, take, drop, set, length-append, length-take, length-drop, length-map, drop_of_length-le}
-use lib.Seq.{drop-cons, drop-drop, get_or-drop, take_all, length-take-le}
+use lib.Seq.{drop-cons, take_all, length-take-le}
 use mir.Val.{bool_byte}
 use borrow.Author.Tests.{lt-ltb, ltb-true, ltb-false, eq-eqb, ne_eqb}
 use Rattle.text.specs.Choose.{pick}
 use Rattle.text.specs.Refusals.{done}
 use Rattle.text.specs.Text.{line_feed, most_cycles, character_of, is_digit, Put}
-use Rattle.text.specs.Read.{cycle_at, start_at, refusal_at, cycles_in, starts_from, starts_in, refusal_from, text_refusal, read_refusal, read_answer, value_of, leading, digit_run, feed_place, checked_refused, Check, Reach, Room, Fill, ReadText}
+use Rattle.text.specs.Read.{cycle_at, start_at, refusal_at, cycles_in, starts_from, starts_in, refusal_from, text_refusal, read_refusal, Recording, Refused, ReadingNumbers, read_answer, value_of, digit_run, feed_place, Check, Room, Fill, ReadText}
 use Rattle.text.specs.declared.characters.Character.{Character}
 use Rattle.text.specs.declared.characters.Character.TheVariants.{Digit, LineFeed, Other}
-use Rattle.text.specs.declared.read.Checked.{Checked}
-use Rattle.text.specs.declared.read.Reading.TheVariants.{Recording, Refused}
 use Rattle.text.proofs.Digits.{first_done, digit_value, no_feed, feed_written}
-use Rattle.text.proofs.Buffers.{putting_end, length_mapped, Mapping, Filled, put_one, fill_begin, fill_more, fill_end}
-
-or_split : (a b : Bool) → (a || b) ≡ false → (a ≡ false) × (b ≡ false)
-or_split true b e = absurd (true≢false e)
-or_split false b e = (refl, e)
-
--- Runs -----------------------------------------------------------------------------------------------------------------
-
--- Counting goes on from i.
-module _ (p : ℕ → Bool) (xs : List ℕ) (i : ℕ) (e : leading p xs ≡ i + leading p (drop i xs)) where
-  pub leading_turn : i < length xs → p (get_or xs i 0) ≡ true → leading p xs ≡ i + 1 + leading p (drop (i + 1) xs)
-  unfolding leading
-  leading_turn h t = e ∙ rw (drop-cons xs i 0 h, add-one i, t) (omega arith)
-
-  pub leading_stop : i < length xs → p (get_or xs i 0) ≡ false → i ≡ leading p xs
-  unfolding leading
-  leading_stop h t = sym (e ∙ rw (drop-cons xs i 0 h, t) (omega arith))
-
-  pub leading_end : length xs ≤ i → i ≡ leading p xs
-  unfolding leading
-  leading_end h = sym (e ∙ rw (drop_of_length-le xs {i = i} h) (omega arith))
-
-leading_within : (p : ℕ → Bool) (xs : List ℕ) → leading p xs ≤ length xs
-unfolding leading
-leading_within p [] = omega arith
-leading_within p (x ∷ xs) = go (p x) (leading_within p xs)
-  where
-    go : (t : Bool) → leading p xs ≤ length xs → pick t (1 + leading p xs) 0 ≤ length (x ∷ xs)
-    go true h = omega arith
-    go false h = omega arith
+use Rattle.text.proofs.Buffers.{Filled, put_one, fill_more, fill_end}
+use Rattle.std.specs.Prelude.{cond, min, Some, None}
+use Rattle.std.specs.List.{position_or_len}
+use Rattle.std.proofs.lemmas.Bool.{or_parts}
+use Rattle.std.proofs.lemmas.List.{nil_from_length}
+use Rattle.std.proofs.lemmas.List.Sums.{prefix_len-le-length}
 
 -- What is accepted -----------------------------------------------------------------------------------------------------
 
@@ -143,26 +117,24 @@ passed_more n c x xs h m p =
     }
 
 passed-run : (m n : ℕ) (xs : List ℕ) → n + m ≤ most_cycles → Passed n (digit_run (take m xs)) xs
-unfolding leading
 passed-run zero n [] h = passed_none n []
 passed-run zero n (x ∷ xs) h = passed_none n (x ∷ xs)
 passed-run (suc m) n [] h = passed_none n []
 passed-run (suc m) n (x ∷ xs) h = go (is_digit (character_of x)) refl (passed-run m (n + 1) xs (omega arith))
   where
-    go : (t : Bool) → is_digit (character_of x) ≡ t → Passed (n + 1) (digit_run (take m xs)) xs → Passed n (pick t (1 + digit_run (take m xs)) 0) (x ∷ xs)
+    go : (t : Bool) → is_digit (character_of x) ≡ t → Passed (n + 1) (digit_run (take m xs)) xs → Passed n (cond t (1 + digit_run (take m xs)) 0) (x ∷ xs)
     go true e p = passed_more n (digit_run (take m xs)) x xs e (omega arith) p
     go false e p = passed_none n (x ∷ xs)
 
 -- A run that is shorter than what is looked at ends before something else.
 run_stops : (m : ℕ) (xs : List ℕ) → digit_run (take m xs) < m → digit_run (take m xs) < length xs → is_digit (character_of (get_or xs (digit_run (take m xs)) 0)) ≡ false
-unfolding leading
 run_stops zero xs h k = absurd (omega arith)
 run_stops (suc m) [] h k = absurd (omega arith)
 run_stops (suc m) (x ∷ xs) h k = go (is_digit (character_of x)) refl h k (run_stops m xs)
   where
-    go : (t : Bool) → is_digit (character_of x) ≡ t → pick t (1 + digit_run (take m xs)) 0 < suc m → pick t (1 + digit_run (take m xs)) 0 < length (x ∷ xs)
+    go : (t : Bool) → is_digit (character_of x) ≡ t → cond t (1 + digit_run (take m xs)) 0 < suc m → cond t (1 + digit_run (take m xs)) 0 < length (x ∷ xs)
         → (digit_run (take m xs) < m → digit_run (take m xs) < length xs → is_digit (character_of (get_or xs (digit_run (take m xs)) 0)) ≡ false)
-        → is_digit (character_of (get_or (x ∷ xs) (pick t (1 + digit_run (take m xs)) 0) 0)) ≡ false
+        → is_digit (character_of (get_or (x ∷ xs) (cond t (1 + digit_run (take m xs)) 0) 0)) ≡ false
     go true e p q r = let s : 1 + digit_run (take m xs) ≡ suc (digit_run (take m xs)) = omega arith in rw s (r (omega arith) (omega arith))
     go false e p q r = e
 
@@ -176,13 +148,12 @@ run_none : (n : ℕ) (xs : List ℕ) → Run n 0 xs
 run_none n xs = record { refusal = rw (add-zero n); cycles = omega arith; starts = rw (add-zero n) (omega arith) }
 
 run_read : (m n : ℕ) (xs : List ℕ) → n + m ≤ most_cycles → Run n (digit_run (take m xs)) xs
-unfolding leading
 run_read zero n [] h = run_none n []
 run_read zero n (x ∷ xs) h = run_none n (x ∷ xs)
 run_read (suc m) n [] h = run_none n []
 run_read (suc m) n (x ∷ xs) h = go (is_digit (character_of x)) refl (passed-run (suc m) n (x ∷ xs) h)
   where
-    go : (t : Bool) → is_digit (character_of x) ≡ t → Passed n (pick t (1 + digit_run (take m xs)) 0) (x ∷ xs) → Run n (pick t (1 + digit_run (take m xs)) 0) (x ∷ xs)
+    go : (t : Bool) → is_digit (character_of x) ≡ t → Passed n (cond t (1 + digit_run (take m xs)) 0) (x ∷ xs) → Run n (cond t (1 + digit_run (take m xs)) 0) (x ∷ xs)
     go true e p =
         let t = lt-ltb 0 (1 + digit_run (take m xs)) (omega arith) in
         record {
@@ -192,76 +163,60 @@ run_read (suc m) n (x ∷ xs) h = go (is_digit (character_of x)) refl (passed-ru
         }
     go false e p = run_none n (x ∷ xs)
 
--- Before byte `at`, where a line is to start: n cycles and m line starts.
-pub record Checking (text : List ℕ) (n m at : ℕ) : Type 0 where
-  pub within : at ≤ length text
+-- What is left behind a line.
+after_line : (c : ℕ) (rest : List ℕ) → take (length rest - (c + 1)) (drop (c + 1) rest) ≡ drop (c + 1) rest
+after_line c rest = take_all (length rest - (c + 1)) (drop (c + 1) rest) (rw (length-drop (c + 1) rest) (omega arith))
+
+-- Before what is left, where a line is to start: n cycles and m line starts.
+pub record Checking (text : List ℕ) (n m : ℕ) (rest : List ℕ) : Type 0 where
   pub most : n ≤ most_cycles
-  pub few : m ≤ at
-  pub refusal : text_refusal text ≡ refusal_from n false (drop at text)
-  pub cycles : length (cycles_in text) ≡ n + length (cycles_in (drop at text))
-  pub starts : length (starts_in text) ≡ m + length (starts_from n false (drop at text))
+  pub few : m + length rest ≤ length text
+  pub refusal : text_refusal text ≡ refusal_from n false rest
+  pub cycles : length (cycles_in text) ≡ n + length (cycles_in rest)
+  pub starts : length (starts_in text) ≡ m + length (starts_from n false rest)
 
-pub check_begin : (text : List ℕ) → Checking text 0 0 0
-check_begin text = record { within = omega arith; most = omega arith; few = omega arith; refusal = refl; cycles = omega arith; starts = omega arith }
-
-refused : (text : List ℕ) (r : ℕ) → text_refusal text ≡ r → (r ≡ done → ⊥) → Check text (checked_refused r)
+refused : (text : List ℕ) (r : ℕ) → text_refusal text ≡ r → (r ≡ done → ⊥) → Check text (record { refusal = r; cycles = 0; starts = 0 })
 refused text r e f =
     let z = ne_eqb r done f in
     record { refusal = sym e; cycles = rw (e, z); starts = rw (e, z) }
 
-module _ (text : List ℕ) (n m at : ℕ) (j : Checking text n m at) where
-  pub check_end : length text ≤ at → Check text (record { refusal = 0; cycles = n; starts = m })
+module _ (text : List ℕ) (n m : ℕ) (rest : List ℕ) (j : Checking text n m rest) where
+  pub check_end : length rest ≡ 0 → Check text (record { refusal = 0; cycles = n; starts = m })
   unfolding refusal_from cycles_in starts_from
   check_end h =
-      let e : drop at text ≡ [] = drop_of_length-le text {i = at} h in
+      let e = nil_from_length rest h in
       let r : text_refusal text ≡ 0 = j.refusal ∙ rw e in
       let c : length (cycles_in text) ≡ n = j.cycles ∙ rw e (omega arith) in
       let s : length (starts_in text) ≡ m = j.starts ∙ rw e (omega arith) in
       record { refusal = sym r; cycles = rw (r, c); starts = rw (r, s) }
 
-  -- c digits follow, and are looked at as far as r
-  module _ (r : ℕ) (g : Reach (length text - at) n r) (h : at < length text) (c : ℕ) (given : c ≡ digit_run (take (at + r - at) (drop at text))) where
-    run_is : c ≡ digit_run (take r (drop at text))
-    run_is = let z : at + r - at ≡ r = omega arith in given ∙ rw z
-
-    run : Run n c (drop at text)
-    run = rw run_is (run_read r n (drop at text) (let f = g.fits in omega arith))
+  -- c digits follow, and are looked at as far as cycles fit
+  module _ (r : ℕ) (g : r ≡ min (length rest) (most_cycles - n)) (c : ℕ) (given : c ≡ digit_run (take r rest)) where
+    run : Run n c rest
+    run = rw given (run_read r n rest (let f = j.most in omega arith))
 
     run_within : c ≤ r
-    run_within = rw run_is (let w = leading_within (λ x. is_digit (character_of x)) (take r (drop at text)) in let l = length-take r (drop at text) in omega arith)
+    run_within = rw given (let w = prefix_len-le-length (λ x. is_digit (character_of x)) (take r rest) in let l = length-take r rest in omega arith)
 
-    pub run_fits : (n + c ≤ most_cycles) × (at + c ≤ length text)
-    run_fits =
-        let w = run_within in
-        let f = g.fits in
-        let l = g.within in
-        (omega arith, omega arith)
-
-    pub run_ends : (at + c ≡ length text → ⊥) → at + c < length text
-    run_ends z = let f = run_fits.1 in omega arith
-
-    behind : drop c (drop at text) ≡ drop (at + c) text
-    behind = drop-drop c at text
-
-    run_refusal_lem : text_refusal text ≡ refusal_from (n + c) (ltb 0 c) (drop (at + c) text)
-    run_refusal_lem = j.refusal ∙ run.refusal ∙ ap (refusal_from (n + c) (ltb 0 c)) behind
+    pub run_fits : (n + c ≤ most_cycles) × (c ≤ length rest)
+    run_fits = let w = run_within in let f = j.most in (omega arith, omega arith)
 
     -- the text ends in a line
-    pub check_unended : at + c ≡ length text → Check text (checked_refused 19)
+    pub check_unended : 0 < length rest → length rest ≤ c → Check text (record { refusal = 19; cycles = 0; starts = 0 })
     unfolding refusal_from
-    check_unended z =
+    check_unended h z =
         let t : ltb 0 c ≡ true = lt-ltb 0 c (omega arith) in
-        let d : drop (at + c) text ≡ [] = drop_of_length-le text {i = at + c} (omega arith) in
-        refused text 19 (run_refusal_lem ∙ rw (d, t)) (λ w. let l : ◌≡◌ {A = ℕ} 19 0 = w in omega arith)
+        let d : drop c rest ≡ [] = drop_of_length-le rest {i = c} z in
+        refused text 19 (j.refusal ∙ run.refusal ∙ rw (d, t)) (λ w. let l : ◌≡◌ {A = ℕ} 19 0 = w in omega arith)
 
-    module _ (u : at + c < length text) (k : Character) (q : k ≡ character_of (get_or text (at + c) 0)) where
-      here : drop (at + c) text ≡ get_or text (at + c) 0 ∷ drop (at + c + 1) text
-      here = drop-cons text (at + c) 0 u ∙ rw (add-one (at + c))
+    module _ (u : c < length rest) (k : Character) (q : k ≡ character_of (get_or rest c 0)) where
+      here : drop c rest ≡ get_or rest c 0 ∷ drop (c + 1) rest
+      here = drop-cons rest c 0 u ∙ rw (add-one c)
 
       -- the character after the run decides
-      pub check_refused : (f : ℕ) → f ≡ refusal_at (n + c) (ltb 0 c) k → (f ≡ done → ⊥) → Check text (checked_refused f)
+      pub check_refused : (f : ℕ) → f ≡ refusal_at (n + c) (ltb 0 c) k → (f ≡ done → ⊥) → Check text (record { refusal = f; cycles = 0; starts = 0 })
       unfolding refusal_from
-      check_refused f v z = refused text f (run_refusal_lem ∙ rw (here, ← q, ← v, ne_eqb f done z)) z
+      check_refused f v z = refused text f (j.refusal ∙ run.refusal ∙ rw (here, ← q, ← v, ne_eqb f done z)) z
 
       -- a digit there has 4,096 before it
       no_digit : is_digit k ≡ true → n + c < most_cycles → ⊥
@@ -269,13 +224,9 @@ module _ (text : List ℕ) (n m at : ℕ) (j : Checking text n m at) where
         where
           go : Dec (c < r) → ⊥
           go (yes p) =
-              let s = run_stops r (drop at text) (rw (← run_is) p) (rw (← run_is, length-drop at text) (omega arith)) in
-              let a : get_or (drop at text) c 0 ≡ get_or text (at + c) 0 = get_or-drop at text c 0 in
-              true≢false (sym d ∙ ap is_digit (q ∙ ap character_of (sym a)) ∙ rw run_is s)
-          go (no p) =
-              let w = run_within in
-              let f = g.whole (omega arith) in
-              omega arith
+              let s = run_stops r rest (rw (← given) p) (rw (← given) u) in
+              true≢false (sym d ∙ ap is_digit q ∙ rw given s)
+          go (no p) = let w = run_within in omega arith
 
       -- it goes on only with a line feed after digits
       line_feed_lem : refusal_at (n + c) (ltb 0 c) k ≡ done → (k ≡ LineFeed) × (ltb 0 c ≡ true)
@@ -287,23 +238,22 @@ module _ (text : List ℕ) (n m at : ℕ) (j : Checking text n m at) where
           go LineFeed y false v w = absurd (let l : ◌≡◌ {A = ℕ} 18 0 = w in omega arith)
           go Other y t v w = absurd (let l : ◌≡◌ {A = ℕ} 17 0 = w in omega arith)
 
-      pub check_turn : (f : ℕ) → f ≡ refusal_at (n + c) (ltb 0 c) k → f ≡ done → Checking text (n + c) (m + 1) (at + c + 1)
-      check_turn f v z =
-          let b = line_feed_lem (sym v ∙ z) in
-          let x : character_of (get_or text (at + c) 0) ≡ LineFeed = sym q ∙ b.0 in
-          let i = j.few in
+      pub check_turn : done ≡ refusal_at (n + c) (ltb 0 c) k → Checking text (n + c) (m + 1) (take (length rest - (c + 1)) (drop (c + 1) rest))
+      check_turn v =
+          rw (after_line c rest)
+          (let b = line_feed_lem (sym v) in
+          let x : character_of (get_or rest c 0) ≡ LineFeed = sym q ∙ b.0 in
           record {
-            within = omega arith;
             most = run_fits.0;
-            few = omega arith;
-            refusal = run_refusal_lem ∙ rw (here, b.1) (refusal_feed (get_or text (at + c) 0) x (drop (at + c + 1) text) (n + c));
-            cycles = j.cycles ∙ (let l = run.cycles in let o : length (cycles_in (drop c (drop at text))) ≡ length (cycles_in (drop (at + c + 1) text)) = rw (behind, here, cycles_character (get_or text (at + c) 0) LineFeed x (drop (at + c + 1) text)) in omega arith);
+            few = let i = j.few in let l = length-drop (c + 1) rest in omega arith;
+            refusal = j.refusal ∙ run.refusal ∙ rw (here, b.1) (refusal_feed (get_or rest c 0) x (drop (c + 1) rest) (n + c));
+            cycles = j.cycles ∙ (let l = run.cycles in let o : length (cycles_in (drop c rest)) ≡ length (cycles_in (drop (c + 1) rest)) = rw (here, cycles_character (get_or rest c 0) LineFeed x (drop (c + 1) rest)) in omega arith);
             starts =
                 j.starts
-                ∙ (let l : length (starts_from n false (drop at text)) ≡ 1 + length (starts_from (n + c) true (drop c (drop at text))) = rw b.1 at run.starts in
-                let o : length (starts_from (n + c) true (drop c (drop at text))) ≡ length (starts_from (n + c) false (drop (at + c + 1) text)) = rw (behind, here, starts_character (get_or text (at + c) 0) LineFeed x (drop (at + c + 1) text) (n + c) true, add-zero (n + c)) in
+                ∙ (let l : length (starts_from n false rest) ≡ 1 + length (starts_from (n + c) true (drop c rest)) = rw b.1 at run.starts in
+                let o : length (starts_from (n + c) true (drop c rest)) ≡ length (starts_from (n + c) false (drop (c + 1) rest)) = rw (here, starts_character (get_or rest c 0) LineFeed x (drop (c + 1) rest) (n + c) true, add-zero (n + c)) in
                 omega arith);
-          }
+          })
 
 -- Filling --------------------------------------------------------------------------------------------------------------
 
@@ -335,13 +285,17 @@ line_more n c x xs h l =
       starts = next_starts x xs n h ∙ rw (z, s) l.starts;
     }
 
-line_read : (n : ℕ) (xs : List ℕ) → refusal_from n true xs ≡ done → Line n (feed_place xs) xs
-unfolding leading refusal_from
+-- Where the first line feed is.
+abbrev place_or_length : List ℕ → ℕ
+place_or_length xs = position_or_len (λ x. eqb x line_feed) xs
+
+line_read : (n : ℕ) (xs : List ℕ) → refusal_from n true xs ≡ done → Line n (place_or_length xs) xs
+unfolding refusal_from
 line_read n [] e = absurd (let l : ◌≡◌ {A = ℕ} 19 0 = e in omega arith)
 line_read n (x ∷ xs) e = go (character_of x) refl (λ f. line_read (n + 1) xs f)
   where
-    go : (k : Character) → character_of x ≡ k → (refusal_from (n + 1) true xs ≡ done → Line (n + 1) (feed_place xs) xs) → Line n (pick (not (eqb x line_feed)) (1 + feed_place xs) 0) (x ∷ xs)
-    go (Digit d) q r = rw (no_feed x (Digit d) q refl) (line_more n (feed_place xs) x xs (ap is_digit q) (r (accepted_character x (Digit d) q xs n true e).1))
+    go : (k : Character) → character_of x ≡ k → (refusal_from (n + 1) true xs ≡ done → Line (n + 1) (place_or_length xs) xs) → Line n (cond (not (eqb x line_feed)) (1 + place_or_length xs) 0) (x ∷ xs)
+    go (Digit d) q r = rw (no_feed x (Digit d) q refl) (line_more n (place_or_length xs) x xs (ap is_digit q) (r (accepted_character x (Digit d) q xs n true e).1))
     go LineFeed q r = rw (eq-eqb x line_feed (feed_written x q)) (line_here n x xs q e)
     go Other q r = absurd (let l : ◌≡◌ {A = ℕ} 17 0 = (accepted_character x Other q xs n true e).0 in omega arith)
 
@@ -354,62 +308,52 @@ line_digit n x xs e = go (character_of x) refl
     go LineFeed q = absurd (let l : ◌≡◌ {A = ℕ} 18 0 = (accepted_character x LineFeed q xs n false e).0 in omega arith)
     go Other q = absurd (let l : ◌≡◌ {A = ℕ} 17 0 = (accepted_character x Other q xs n false e).0 in omega arith)
 
--- The cycles of all digits are written.
-pub cycles-done : (before : List ℕ) (n : ℕ) (digits now : List ℕ) (i : ℕ) → Mapping value_of [] before n digits now i → length digits ≤ i → Put before n (map value_of digits) (n + i) now
-cycles-done before n digits now i m h = rw append-nil at (putting_end before n (map value_of digits ++ []) now i m.part (rw (length_mapped value_of digits []) (omega arith)))
-
--- Before byte `at`, where a line is to start: n cycles and m line starts are written.
-pub record Filling (text cb sb cb₁ sb₁ : List ℕ) (n m at : ℕ) : Type 0 where
-  pub within : at ≤ length text
+-- Before what is left, where a line is to start: n cycles and m line starts are written.
+pub record Filling (text cb sb cb₁ sb₁ : List ℕ) (n m : ℕ) (rest : List ℕ) : Type 0 where
   pub most : n ≤ most_cycles
-  pub accepted : refusal_from n false (drop at text) ≡ done
-  pub cycles : Filled (cycles_in text) cb cb₁ n (cycles_in (drop at text))
-  pub starts : Filled (starts_in text) sb sb₁ m (starts_from n false (drop at text))
+  pub accepted : refusal_from n false rest ≡ done
+  pub cycles : Filled (cycles_in text) cb cb₁ n (cycles_in rest)
+  pub starts : Filled (starts_in text) sb sb₁ m (starts_from n false rest)
 
-pub filling_begin : (text cb sb : List ℕ) → Room text cb sb → Filling text cb sb cb sb 0 0 0
-filling_begin text cb sb r =
-    record {
-      within = omega arith;
-      most = omega arith;
-      accepted = r.accepted;
-      cycles = fill_begin cb 0 (cycles_in text) (let h = r.cycles in omega arith);
-      starts = fill_begin sb 0 (starts_in text) (let h = r.starts in omega arith);
-    }
+-- An accepted line ends in the first line feed.
+line_begun : (n : ℕ) (rest : List ℕ) → refusal_from n false rest ≡ done → 0 < length rest → Line n (place_or_length rest) rest × (starts_from n false rest ≡ n ∷ starts_from n true rest)
+line_begun n [] e h = absurd (omega arith)
+line_begun n (x ∷ xs) e h =
+    let d = line_digit n x xs e in
+    (line_read n (x ∷ xs) (sym (first_refusal x xs n d) ∙ e), first_starts x xs n d)
 
-module _ (text cb sb cb₁ sb₁ : List ℕ) (n m at : ℕ) (f : Filling text cb sb cb₁ sb₁ n m at) where
-  pub filling_end : length text ≤ at → Fill text cb sb cb₁ sb₁
+module _ (text cb sb cb₁ sb₁ : List ℕ) (n m : ℕ) (rest : List ℕ) (f : Filling text cb sb cb₁ sb₁ n m rest) where
+  -- no line feed: nothing is left
+  pub filling_end : None ≡ feed_place rest → Fill text cb sb cb₁ sb₁
   unfolding cycles_in starts_from
-  filling_end h =
-      let e : drop at text ≡ [] = drop_of_length-le text {i = at} h in
-      record {
-        cycles = fill_end (cycles_in text) cb cb₁ n (rw e at f.cycles);
-        starts = fill_end (starts_in text) sb sb₁ m (rw e at f.starts);
-      }
+  filling_end e = go rest f.accepted f.cycles f.starts e
+    where
+      go : (xs : List ℕ) → refusal_from n false xs ≡ done → Filled (cycles_in text) cb cb₁ n (cycles_in xs) → Filled (starts_in text) sb sb₁ m (starts_from n false xs) → None ≡ feed_place xs → Fill text cb sb cb₁ sb₁
+      go [] a c s e = record { cycles = fill_end (cycles_in text) cb cb₁ n c; starts = fill_end (starts_in text) sb sb₁ m s }
+      go (x ∷ xs) a c s e =
+          let w = (line_begun n (x ∷ xs) a (omega arith)).0.within in
+          let z : None ≡ Some (place_or_length (x ∷ xs)) = rw (lt-ltb (place_or_length (x ∷ xs)) (length (x ∷ xs)) w) at e in
+          absurd (cc)
 
-  module _ (h : at < length text) (c : ℕ) (given : c ≡ feed_place (take (length text - at) (drop at text))) where
-    feed_is : c ≡ feed_place (drop at text)
-    feed_is = given ∙ ap feed_place (take_all (length text - at) (drop at text) (rw (length-drop at text) (omega arith)))
+  module _ (c : ℕ) (given : Some c ≡ feed_place rest) where
+    at_feed : (c ≡ place_or_length rest) × (c < length rest)
+    at_feed = go (ltb (place_or_length rest) (length rest)) refl given
+      where
+        go : (t : Bool) → ltb (place_or_length rest) (length rest) ≡ t → Some c ≡ cond t (Some (place_or_length rest)) None → (c ≡ place_or_length rest) × (c < length rest)
+        go true h e = let l = ltb-true (place_or_length rest) (length rest) h in let q : c ≡ place_or_length rest = cc in (q, omega arith)
+        go false h e = absurd (cc)
 
-    part_is : at + c - at ≡ c
-    part_is = omega arith
+    begun : Line n c rest × (starts_from n false rest ≡ n ∷ starts_from n true rest)
+    begun = rw (at_feed.0) (line_begun n rest f.accepted (let l = at_feed.1 in omega arith))
 
-    begins : is_digit (character_of (get_or text at 0)) ≡ true
-    begins = line_digit n (get_or text at 0) (drop (suc at) text) (rw (← drop-cons text at 0 h) f.accepted)
+    pub line_within : c < length rest
+    line_within = at_feed.1
 
-    line : Line n c (drop at text)
-    line = rw feed_is (line_read n (drop at text) (rw (drop-cons text at 0 h) (sym (first_refusal (get_or text at 0) (drop (suc at) text) n begins) ∙ rw (← drop-cons text at 0 h) f.accepted)))
+    next_cycles : Filled (cycles_in text) cb cb₁ n (map value_of (take c rest) ++ cycles_in (drop (c + 1) rest))
+    next_cycles = rw (add-one c, ← begun.0.cycles) f.cycles
 
-    behind_line : drop (suc c) (drop at text) ≡ drop (at + c + 1) text
-    behind_line = let z : at + suc c ≡ at + c + 1 = omega arith in drop-drop (suc c) at text ∙ ap (λ (i : ℕ). drop i text) z
-
-    next_cycles : Filled (cycles_in text) cb cb₁ n (map value_of (take c (drop at text)) ++ cycles_in (drop (at + c + 1) text))
-    next_cycles = rw (← behind_line, ← line.cycles) f.cycles
-
-    next_start : Filled (starts_in text) sb sb₁ m ((n ∷ []) ++ starts_from (n + c) false (drop (at + c + 1) text))
-    next_start = rw (← behind_line, ← line.starts) (rw (drop-cons text at 0 h, first_starts (get_or text at 0) (drop (suc at) text) n begins, ← drop-cons text at 0 h) at f.starts)
-
-    pub line_within : at + c < length text
-    line_within = let w = line.within in let l = length-drop at text in omega arith
+    next_start : Filled (starts_in text) sb sb₁ m ((n ∷ []) ++ starts_from (n + c) false (drop (c + 1) rest))
+    next_start = rw (add-one c, ← begun.0.starts, ← begun.1) f.starts
 
     pub start_room : m < length sb₁
     start_room =
@@ -418,38 +362,40 @@ module _ (text cb sb cb₁ sb₁ : List ℕ) (n m at : ℕ) (f : Filling text cb
         let s = next_start.same in
         omega arith
 
-    pub cycles_room : n + length (take (at + c - at) (drop at text)) ≤ length cb₁
+    pub cycles_room : n + length (take c rest) ≤ length cb₁
     cycles_room =
-        rw part_is
-        (let a = next_cycles.count in
+        let a = next_cycles.count in
         let r = next_cycles.room in
         let s = next_cycles.same in
-        let l = length-append (map value_of (take c (drop at text))) (cycles_in (drop (at + c + 1) text)) in
-        let k = length-map (take c (drop at text)) value_of in
-        omega arith)
+        let l = length-append (map value_of (take c rest)) (cycles_in (drop (c + 1) rest)) in
+        let k = length-map (take c rest) value_of in
+        omega arith
 
-    pub filling_turn : (n₂ : ℕ) (cb₂ : List ℕ) → Put cb₁ n (map value_of (take (at + c - at) (drop at text))) n₂ cb₂ → Filling text cb sb cb₂ (set sb₁ m n) n₂ (m + 1) (at + c + 1)
-    filling_turn n₂ cb₂ q =
-        let p = rw part_is at q in
-        let w = line_within in
-        let i : n₂ ≡ n + c = p.next ∙ ap (λ (t : ℕ). n + t) (length-map (take c (drop at text)) value_of ∙ length-take-le c (drop at text) (let v = line.within in omega arith)) in
-        let a : refusal_from (n + c) false (drop (at + c + 1) text) ≡ done = rw (← behind_line) line.accepted in
-        record {
-          within = omega arith;
-          most =
-              rw i
-              (let t = cycles_most n false (drop at text) f.accepted f.most in
-              let l = ap length line.cycles ∙ length-append (map value_of (take c (drop at text))) (cycles_in (drop (suc c) (drop at text))) in
-              let k = length-map (take c (drop at text)) value_of ∙ length-take-le c (drop at text) (let v = line.within in omega arith) in
-              omega arith);
-          accepted = rw i a;
-          cycles = fill_more (cycles_in text) cb cb₁ n (map value_of (take c (drop at text))) (cycles_in (drop (at + c + 1) text)) next_cycles n₂ cb₂ p;
-          starts = rw i (fill_more (starts_in text) sb sb₁ m (n ∷ []) (starts_from (n + c) false (drop (at + c + 1) text)) next_start (m + 1) (set sb₁ m n) (put_one sb₁ m n start_room));
-        }
+    -- the line's cycles fit
+    length_cycles : length (map value_of (take c rest)) ≡ c
+    length_cycles = length-map (take c rest) value_of ∙ length-take-le c rest (let w = line_within in omega arith)
+
+    pub line_fits : n + c ≤ most_cycles
+    line_fits =
+        let t = cycles_most n false rest f.accepted f.most in
+        let l = ap length begun.0.cycles ∙ length-append (map value_of (take c rest)) (cycles_in (drop (suc c) rest)) in
+        let k = length_cycles in
+        omega arith
+
+    pub filling_turn : (n₂ : ℕ) (cb₂ : List ℕ) → Put cb₁ n (map value_of (take c rest)) n₂ cb₂ → Filling text cb sb cb₂ (set sb₁ m n) n₂ (m + 1) (take (length rest - (c + 1)) (drop (c + 1) rest))
+    filling_turn n₂ cb₂ p =
+        let i : n₂ ≡ n + c = p.next ∙ ap (λ (t : ℕ). n + t) length_cycles in
+        rw (after_line c rest)
+        (record {
+          most = rw i line_fits;
+          accepted = rw (i, add-one c) begun.0.accepted;
+          cycles = fill_more (cycles_in text) cb cb₁ n (map value_of (take c rest)) (cycles_in (drop (c + 1) rest)) next_cycles n₂ cb₂ p;
+          starts = rw i (fill_more (starts_in text) sb sb₁ m (n ∷ []) (starts_from (n + c) false (drop (c + 1) rest)) next_start (m + 1) (set sb₁ m n) (put_one sb₁ m n start_room));
+        })
 
 -- Answers --------------------------------------------------------------------------------------------------------------
 
-module _ (text cb sb : List ℕ) (j : Checked) (g : Check text j) where
+module _ (text cb sb : List ℕ) (j : ReadingNumbers) (g : Check text j) where
   pub read_refused : (j.refusal ≡ done → ⊥) → ReadText text cb sb (Refused j.refusal) cb sb
   unfolding read_answer read_refusal
   read_refused f =
@@ -477,7 +423,7 @@ module _ (text cb sb : List ℕ) (j : Checked) (g : Check text j) where
     module _ (s : (ltb (length cb) j.cycles || ltb (length sb) j.starts) ≡ false) where
       pub read_room : Room text cb sb
       read_room =
-          let o = or_split (ltb (length cb) j.cycles) (ltb (length sb) j.starts) s in
+          let o = or_parts (ltb (length cb) j.cycles) (ltb (length sb) j.starts) s in
           record {
             accepted = accepted;
             cycles = rw (← cycles_are) (ltb-false (length cb) j.cycles o.0);

@@ -9,18 +9,15 @@ use lib.Dec.{ltb, leb, eqb}
 use lib.ListN.{length, take, drop, length-append, length-drop, take-append-drop, drop_of_length-le}
 use lib.Seq.{append_snoc, take_at, drop-append-le, drop-drop, drop-length}
 use borrow.Author.Tests.{leb-true, lt-ltb, le-ltb, le-leb, ne_eqb}
+use Rattle.std.proofs.lemmas.List.{map-append}
 use Rattle.text.specs.Choose.{pick}
 use Rattle.text.specs.Refusals.{done, no_line_feed, first_of}
 use Rattle.text.specs.Text.{line_feed, digit_of, character_of, is_digit, most_cycles, cycles_fit, places_fit, line_of, line_end, line_starts, between, lines_from, text_of, over}
-use Rattle.text.specs.Write.{recording_refusal, write_refusal, written_numbers, write_answer, write_left, WriteText}
-use Rattle.text.specs.Read.{cycle_at, start_at, refusal_at, refusal_at_end, cycles_in, starts_from, starts_in, refusal_from, text_refusal, read_refusal, reading_numbers, read_answer, ReadText}
+use Rattle.text.specs.Write.{recording_refusal, write_refusal, Written, Bytes, Refused, written_numbers, write_answer, write_left, WriteText}
+use Rattle.text.specs.Read.{cycle_at, start_at, refusal_at, refusal_at_end, cycles_in, starts_from, starts_in, refusal_from, text_refusal, read_refusal, Reading, Recording, Refused as Reading-as-Refused, reading_numbers, read_answer, ReadText}
 use Rattle.text.specs.RoundTrip.{Readable, Writable, Inverse, Gives, RoundTrip, FirstDecides, StartsAsPlaces, Enough, p4_recording, p4_text, Examples}
 use Rattle.text.specs.declared.characters.Character.{Character}
 use Rattle.text.specs.declared.characters.Character.TheVariants.{Digit, LineFeed, Other}
-use Rattle.text.specs.declared.write.Written.{Written}
-use Rattle.text.specs.declared.write.Written.TheVariants.{Bytes, Refused}
-use Rattle.text.specs.declared.read.Reading.{Reading}
-use Rattle.text.specs.declared.read.Reading.TheVariants.{Recording, Refused as Reading-as-Refused}
 use Rattle.text.proofs.Digits.{first_done, and_split, digit_read, digit_written, feed_written}
 use Rattle.text.proofs.Writing.{places_split, places_join, line_within, places_few, length_text, starts_fit, first_zero, length-between, recording_accepted, recording-done, write_ready}
 use Rattle.text.proofs.Reading.{refusal_feed, cycles_character, starts_character, accepted_character, accepted_next, cycles_most}
@@ -183,10 +180,6 @@ first_start n (x ∷ xs) e = go (character_of x) (accepted_next n false x xs e).
     go LineFeed z = absurd (let l : ◌≡◌ {A = ℕ} 18 0 = z in omega arith)
     go Other z = absurd (let l : ◌≡◌ {A = ℕ} 17 0 = z in omega arith)
 
-map-append : (xs ys : List ℕ) → map digit_of (xs ++ ys) ≡ map digit_of xs ++ map digit_of ys
-map-append [] ys = refl
-map-append (x ∷ xs) ys = ap (λ (l : List ℕ). digit_of x ∷ l) (map-append xs ys)
-
 -- A text is its lines again: `pre` are the cycles before it, and a line that has begun starts at s.
 record Again (xs : List ℕ) : Type 0 where
   pub ended : (pre : List ℕ) → refusal_from (length pre) false xs ≡ done → lines_from (pre ++ cycles_in xs) (starts_from (length pre) false xs) ≡ xs
@@ -205,7 +198,7 @@ module _ (x d : ℕ) (q : character_of x ≡ Digit d) (xs : List ℕ) (r : Again
   again_digit s h e =
       let c : pre ++ cycles_in (x ∷ xs) ≡ (pre ++ (d ∷ [])) ++ cycles_in xs = ap (λ (l : List ℕ). pre ++ l) (cycles_character x (Digit d) q xs) ∙ sym (append_snoc pre d (cycles_in xs)) in
       let i : lines_from ((pre ++ (d ∷ [])) ++ cycles_in xs) (s ∷ starts_from (length pre + 1) true xs) ≡ map digit_of (drop s (pre ++ (d ∷ []))) ++ xs = rw (← longer) (r.begun (pre ++ (d ∷ [])) s (rw longer (omega arith)) (rw longer e)) in
-      let m : map digit_of (drop s (pre ++ (d ∷ []))) ≡ map digit_of (drop s pre) ++ (x ∷ []) = rw (drop-append-le s pre (d ∷ []) h, map-append (drop s pre) (d ∷ []), (digit_written x d q).0) in
+      let m : map digit_of (drop s (pre ++ (d ∷ []))) ≡ map digit_of (drop s pre) ++ (x ∷ []) = rw (drop-append-le s pre (d ∷ []) h, map-append digit_of (drop s pre) (d ∷ []), (digit_written x d q).0) in
       rw c (i ∙ ap (λ (l : List ℕ). l ++ xs) m ∙ append_snoc (map digit_of (drop s pre)) x xs)
 
 module _ (x : ℕ) (q : character_of x ≡ LineFeed) (xs : List ℕ) (r : Again xs) (pre : List ℕ) (s : ℕ) (h : s ≤ length pre) (e : refusal_from (length pre) false xs ≡ done) where

@@ -1,34 +1,31 @@
 -- The loops of writing, and how long a text is.
-use Prim.Native.Nat.{ℕ, zero, suc, ◌+◌, ◌-◌, ◌*◌, ◌≤◌, ◌<◌}
+use Prim.Native.Nat.{ℕ, zero, suc, ◌+◌, ◌-◌, ◌≤◌, ◌<◌}
 use mathlib.Core.Path.{◌≡◌, refl, sym, ap, ◌∙◌}
 use mathlib.Core.Bool.{Bool, true, false, ◌&&◌, and_assoc, and-true}
 use mathlib.Core.List.{List, [], ◌∷◌, ◌++◌, map}
 use native.Mathlib.Omega.{arith}
+use native.Mathlib.Nat.{sub-zero}
 use native.Mathlib.Numerals.{add-one}
 use lib.Dec.{ltb, leb}
 use lib.ListN.{length, get_or, take, drop, set, length-drop, length-append, length-map, drop_of_length-le}
-use lib.Seq.{drop-cons, length-take-le, length-paste, get_or_at}
+use lib.Seq.{drop-cons, length-take-le, length-paste}
 use mir.Val.{bool_byte}
-use borrow.Author.Tests.{ltb-true, ltb-false, leb-true, le-leb, lt-ltb, le-ltb, ne_eqb}
+use borrow.Author.Tests.{ltb-true, ltb-false, leb-true, le-leb, lt-ltb, le-ltb, lt-leb, ne_eqb}
 use Rattle.text.specs.Choose.{pick}
 use Rattle.text.specs.Refusals.{done}
 use Rattle.text.specs.Text.{line_feed, digit_of, most_cycles, cycles_fit, places_fit, line_of, between, line_end, line_starts, lines_from, text_of, Put}
-use Rattle.text.specs.Write.{recording_refusal, write_refusal, write_answer, write_left, lead_of, Lead, Lines, WriteText}
-use Rattle.text.specs.declared.write.Written.TheVariants.{Bytes, Refused}
-use Rattle.text.proofs.Digits.{first_done, and_split, one_at_most}
-use Rattle.text.proofs.Buffers.{putting_turn, putting_end, length_mapped, Mapping, Filled, put_none, fill_begin, fill_more, fill_put, put_put, put_over}
+use Rattle.text.specs.Write.{recording_refusal, write_refusal, Bytes, Refused, write_answer, write_left, lead_of, Lead, Lines, WriteText}
+use Rattle.text.proofs.Digits.{first_done, and_split}
+use Rattle.text.proofs.Buffers.{Filled, put_none, put_one, fill_more, fill_put, put_put, put_over}
+use Rattle.std.specs.List.{fold}
 
 -- Cycles ---------------------------------------------------------------------------------------------------------------
 
--- `all` says whether every cycle before i has a digit.
-module _ (cs : List ℕ) (all : Bool) (i : ℕ) (k : cycles_fit cs ≡ all && cycles_fit (drop i cs)) where
-  pub fit_turn : i < length cs → cycles_fit cs ≡ (all && leb (get_or cs i 0) 15) && cycles_fit (drop (i + 1) cs)
-  unfolding cycles_fit
-  fit_turn h = k ∙ rw (add-one, drop-cons cs i 0 h) (sym (and_assoc all (leb (get_or cs i 0) 15) (cycles_fit (drop (suc i) cs))))
-
-  pub fit_end : length cs ≤ i → all ≡ cycles_fit cs
-  unfolding cycles_fit
-  fit_end h = sym (k ∙ rw (drop_of_length-le cs {i = i} h) (and-true all))
+-- Cycle by cycle, with no early exit.
+pub fit_fold : (all : Bool) (cs : List ℕ) → fold (λ a c. a && leb c 15) all cs ≡ all && cycles_fit cs
+unfolding cycles_fit
+fit_fold all [] = sym (and-true all)
+fit_fold all (c ∷ cs) = fit_fold (all && leb c 15) cs ∙ and_assoc all (leb c 15) (cycles_fit cs)
 
 -- Places ---------------------------------------------------------------------------------------------------------------
 
@@ -49,11 +46,14 @@ module _ (n : ℕ) (ps : List ℕ) (low k : ℕ) (e : places_fit 0 n ps ≡ plac
   unfolding places_fit
   places_at h = e ∙ rw (drop-cons ps k 0 h, add-one k)
 
-  pub places_turn : k < length ps → (leb low (get_or ps k 0) && ltb (get_or ps k 0) n) ≡ true → places_fit 0 n ps ≡ places_fit (get_or ps k 0 + 1) n (drop (k + 1) ps)
-  places_turn h t = places_at h ∙ rw t
+  pub places_turn : k < length ps → low ≤ get_or ps k 0 → get_or ps k 0 < n → places_fit 0 n ps ≡ places_fit (get_or ps k 0 + 1) n (drop (k + 1) ps)
+  places_turn h l u = places_at h ∙ rw (le-leb low (get_or ps k 0) l, lt-ltb (get_or ps k 0) n u)
 
-  pub places_false : k < length ps → (leb low (get_or ps k 0) && ltb (get_or ps k 0) n) ≡ false → false ≡ places_fit 0 n ps
-  places_false h t = sym (places_at h ∙ rw t)
+  pub places_low : k < length ps → get_or ps k 0 < low → false ≡ places_fit 0 n ps
+  places_low h l = sym (places_at h ∙ rw (lt-leb low (get_or ps k 0) l))
+
+  pub places_high : k < length ps → low ≤ get_or ps k 0 → n ≤ get_or ps k 0 → false ≡ places_fit 0 n ps
+  places_high h l u = sym (places_at h ∙ rw (le-leb low (get_or ps k 0) l, le-ltb (get_or ps k 0) n u))
 
   pub places_end : length ps ≤ k → true ≡ places_fit 0 n ps
   unfolding places_fit
@@ -90,9 +90,12 @@ line_at low n (p ∷ ps) (suc k) e h = line_at (p + 1) n ps k (places_split low 
 
 -- Lines ----------------------------------------------------------------------------------------------------------------
 
+length_mapped : (cs rest : List ℕ) → length (map digit_of cs ++ rest) ≡ length cs + length rest
+length_mapped cs rest = length-append (map digit_of cs) rest ∙ ap (λ (n : ℕ). n + length rest) (length-map cs digit_of)
+
 length_line : (cs : List ℕ) → length (line_of cs) ≡ length cs + 1
 unfolding line_of
-length_line cs = length_mapped digit_of cs (line_feed ∷ [])
+length_line cs = length_mapped cs (line_feed ∷ [])
 
 pub length-between : (s t : ℕ) (cs : List ℕ) → t ≤ length cs → length (between s t cs) ≡ t - s
 length-between s t cs h = length-take-le (t - s) (drop s cs) (rw (length-drop s cs) (omega arith))
@@ -156,16 +159,18 @@ length_text cs ps e = go (line_starts cs ps) (starts_fit cs ps ∙ e) (first_zer
     go [] f z = omega arith
     go (s ∷ ss) f z = let l = length_lines cs 0 s ss f in omega arith
 
--- A line is written digit by digit, then its line feed.
-pub line_done : (before : List ℕ) (at : ℕ) (line now : List ℕ) (i : ℕ) → Mapping digit_of (line_feed ∷ []) before at line now i → length line ≤ i → Put before at (line_of line) (at + i + 1) (set now (at + i) line_feed)
-unfolding line_of
-line_done before at line now i m h =
-    let k = length_line line in
-    let w = m.within in
-    let f : get_or (line_of line) i 0 ≡ line_feed = get_or_at (map digit_of line) line_feed [] 0 i (length-map line digit_of ∙ omega arith) in
-    let p = putting_end before at (line_of line) (set now (at + i) line_feed) (i + 1) (putting_turn before at (line_of line) now i m.part line_feed (omega arith) (sym f)) (omega arith) in
-    let n : at + (i + 1) ≡ at + i + 1 = omega arith in
-    rw n at p
+-- A line is its digits, then its line feed.
+module _ (before : List ℕ) (at : ℕ) (line : List ℕ) (h : at + length line < length before) (end : ℕ) (now : List ℕ) (p : Put before at (map digit_of line) end now) where
+  pub feed_room : end < length now
+  feed_room =
+      let n = p.next in
+      let m = length-map line digit_of in
+      let l = ap length p.put ∙ length-paste before at (map digit_of line) (length (map digit_of line)) (omega arith) (omega arith) in
+      omega arith
+
+  pub line_done : Put before at (line_of line) (end + 1) (set now end line_feed)
+  unfolding line_of
+  line_done = put_put before at (map digit_of line) (line_feed ∷ []) end (end + 1) now (set now end line_feed) (rw length_mapped (omega arith)) p (put_one now end line_feed feed_room)
 
 -- Refusals -------------------------------------------------------------------------------------------------------------
 
@@ -193,23 +198,6 @@ pub recording-done : (cs ps : List ℕ) → Accepted cs ps → recording_refusal
 unfolding recording_refusal
 recording-done cs ps a = rw (le-ltb most_cycles (length cs) a.most, a.cycles, a.places)
 
-module _ (cs ps : List ℕ) where
-  pub refused_long : most_cycles < length cs → 13 ≡ recording_refusal cs ps
-  unfolding recording_refusal
-  refused_long h = rw (lt-ltb most_cycles (length cs) h)
-
-  pub refused_cycle : length cs ≤ most_cycles → false ≡ cycles_fit cs → 14 ≡ recording_refusal cs ps
-  unfolding recording_refusal
-  refused_cycle h e = rw (le-ltb most_cycles (length cs) h, ← e)
-
-  pub refused_places : length cs ≤ most_cycles → true ≡ cycles_fit cs → false ≡ places_fit 0 (length cs) ps → 15 ≡ recording_refusal cs ps
-  unfolding recording_refusal
-  refused_places h e f = rw (le-ltb most_cycles (length cs) h, ← e, ← f)
-
-  pub refused_none : length cs ≤ most_cycles → true ≡ cycles_fit cs → true ≡ places_fit 0 (length cs) ps → 0 ≡ recording_refusal cs ps
-  unfolding recording_refusal
-  refused_none h e f = rw (le-ltb most_cycles (length cs) h, ← e, ← f)
-
 count_starts : (t : Bool) (ps : List ℕ) → length (pick t (0 ∷ ps) ps) ≡ length ps + bool_byte t
 count_starts true ps = omega arith
 count_starts false ps = omega arith
@@ -223,21 +211,6 @@ module _ (cs ps buffer : List ℕ) (r : ℕ) (e : r ≡ recording_refusal cs ps)
     text_count : length (text_of cs ps) ≡ length cs + (length ps + bool_byte (ltb 0 end))
     unfolding line_starts
     text_count = length_text cs ps (recording_accepted cs ps (sym e ∙ z)).places ∙ ap (λ (n : ℕ). length cs + n) (rw l (count_starts (ltb 0 (line_end (length cs) ps)) ps))
-
-    text_few : length cs + (length ps + bool_byte (ltb 0 end)) ≤ 2 * most_cycles + 1
-    text_few =
-        let a = recording_accepted cs ps (sym e ∙ z) in
-        let m = a.most in
-        let f = places_few 0 (length cs) ps a.places (omega arith) in
-        let b = one_at_most (ltb 0 end) in
-        omega arith
-
-    -- neither sum overflows
-    pub lines_fit : (bound : ℕ) → 2 * most_cycles + 1 < bound → length ps + bool_byte (ltb 0 end) < bound
-    lines_fit bound h = let t = text_few in omega arith
-
-    pub text_fit : (bound : ℕ) → 2 * most_cycles + 1 < bound → length cs + (length ps + bool_byte (ltb 0 end)) < bound
-    text_fit bound h = let t = text_few in omega arith
 
     pub write_short : length buffer < length cs + (length ps + bool_byte (ltb 0 end)) → 16 ≡ write_refusal cs ps buffer
     unfolding write_refusal
@@ -272,17 +245,15 @@ write_ready cs ps buffer e =
     room true p z = absurd (let n : ◌≡◌ {A = ℕ} 16 0 = z in omega arith)
     room false p z = ltb-false (length buffer) (length (text_of cs ps)) p
 
+drop_zero : (cs : List ℕ) → drop 0 cs ≡ cs
+drop_zero [] = refl
+drop_zero (c ∷ cs) = refl
+
 -- the line before the first place
 module _ (cs : List ℕ) (end : ℕ) (buffer : List ℕ) where
-  pub lead_room : Lead cs end buffer → 0 < end → 0 + length (between 0 end cs) < length buffer
-  lead_room l h =
-      let b = length-between 0 end cs l.within in
-      let r = l.room h in
-      omega arith
-
-  pub lead_put : 0 < end → (at : ℕ) (now : List ℕ) → Put buffer 0 (line_of (between 0 end cs)) at now → Put buffer 0 (lead_of cs end) at now
+  pub lead_put : 0 < end → (at : ℕ) (now : List ℕ) → Put buffer 0 (line_of (take end cs)) at now → Put buffer 0 (lead_of cs end) at now
   unfolding lead_of
-  lead_put h at now p = rw (lt-ltb 0 end h) p
+  lead_put h at now p = rw (lt-ltb 0 end h, sub-zero end, drop_zero cs) p
 
   pub lead_none : end ≤ 0 → Put buffer 0 (lead_of cs end) 0 buffer
   unfolding lead_of
@@ -327,11 +298,6 @@ pub record Lined (cs ps buffer : List ℕ) (start : ℕ) (now : List ℕ) (at k 
   pub begins : start ≤ length buffer
   pub places : places_fit 0 (length cs) ps ≡ true
   pub text : Filled (take start buffer ++ lines_from cs ps) buffer now at (lines_from cs (drop k ps))
-
-pub lines_begin : (cs ps : List ℕ) (start : ℕ) (buffer : List ℕ) → Lines cs ps start buffer → Lined cs ps buffer start buffer start 0
-lines_begin cs ps start buffer l =
-    let r = l.room in
-    record { within = omega arith; begins = omega arith; places = l.places; text = fill_begin buffer start (lines_from cs ps) r }
 
 module _ (cs ps buffer : List ℕ) (start : ℕ) (now : List ℕ) (at k : ℕ) (l : Lined cs ps buffer start now at k) where
   pub lines_within : k < length ps → Within (length cs) (get_or ps k 0) (line_end (length cs) (drop (k + 1) ps))

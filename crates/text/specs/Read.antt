@@ -1,14 +1,14 @@
 -- Reading a text: what it contains, where it is refused, what is answered, and what is left in the lent buffers.
-use Rattle.std.specs.Prelude.{ℕ, ◌+◌, ◌*◌, ◌%◌, ◌≤◌, ◌<◌, ◌≡◌, Bool, false, not, ◌||◌, List, [], ◌∷◌, ◌++◌, length, ltb, leb, eqb}
+use Rattle.std.specs.Prelude.{ℕ, ◌+◌, ◌*◌, ◌%◌, ◌≤◌, ◌≡◌, Bool, false, ◌||◌, List, [], ◌∷◌, ◌++◌, length, ltb, leb, eqb, Option, Result, Ok, Err}
+use Rattle.std.specs.List.{prefix_len, position}
 use mir.Val.{bool_byte}
 use Rattle.text.specs.Choose.{pick}
-use Rattle.text.specs.Refusals.{done, too_many_cycles, too_short, bad_character, empty_line, no_line_feed, first_of}
+use Rattle.text.specs.Refusals.{done, too_many_cycles, too_short, bad_character, empty_line, no_line_feed, number, first_of}
 use Rattle.text.specs.Text.{line_feed, most_cycles, character_of, is_digit, over}
 use Rattle.text.specs.declared.characters.Character.{Character}
 use Rattle.text.specs.declared.characters.Character.TheVariants.{Digit, LineFeed, Other}
-use Rattle.text.specs.declared.read.Reading.{Reading}
-use Rattle.text.specs.declared.read.Reading.TheVariants.{Recording, Refused}
-use Rattle.text.specs.declared.read.Checked.{Checked}
+use Rattle.text.specs.declared.refusals.Refusal.{Refusal}
+use Rattle.text.specs.declared.read.Recording.{Recording as Counts}
 
 -- At one character -----------------------------------------------------------------------------------------------------
 -- n cycles come before it; `begun` says whether its line has a digit already.
@@ -70,6 +70,16 @@ read_refusal text cb sb =
     first_of (text_refusal text)
     (pick (ltb (length cb) (length (cycles_in text)) || ltb (length sb) (length (starts_in text))) too_short done)
 
+-- What reading answers: how many cycles and line starts there are, or a refusal number.
+pub data Reading : Type 0 where
+  Recording : ℕ → ℕ → Reading
+  Refused : ℕ → Reading
+
+-- The answer that a result stands for.
+abbrev pub reading_of : Result Counts Refusal → Reading
+reading_of (Ok c) = Recording c.cycles c.starts
+reading_of (Err r) = Refused (number r)
+
 -- An answer as numbers.
 pub record ReadingNumbers : Type 0 where
   pub refusal : ℕ
@@ -106,31 +116,16 @@ value_of x = x % 16 + 9 * bool_byte (leb 65 x)
 unfoldable pub DigitValue : Type 0
 DigitValue = (x d : ℕ) → character_of x ≡ Digit d → value_of x ≡ d
 
--- How many elements come before the first that fails a test.
-unfoldable pub leading : (ℕ → Bool) → List ℕ → ℕ
-leading p [] = 0
-leading p (x ∷ xs) = pick (p x) (1 + leading p xs) 0
-
 -- How many digits the bytes begin with.
 abbrev pub digit_run : List ℕ → ℕ
-digit_run bytes = leading (λ x. is_digit (character_of x)) bytes
+digit_run bytes = prefix_len (λ x. is_digit (character_of x)) bytes
 
--- How many bytes come before the first line feed.
-abbrev pub feed_place : List ℕ → ℕ
-feed_place bytes = leading (λ x. not (eqb x line_feed)) bytes
-
--- How many bytes to look at: those that are left, but no more than cycles still fit.
-pub record Reach (left cycles r : ℕ) : Type 0 where
-  pub within : r ≤ left
-  pub fits : r + cycles ≤ most_cycles
-  pub whole : r < left → r + cycles ≡ most_cycles
-
--- A text that is refused.
-abbrev pub checked_refused : ℕ → Checked
-checked_refused number = record { refusal = number; cycles = 0; starts = 0 }
+-- How many bytes come before the first line feed, if there is one.
+abbrev pub feed_place : List ℕ → Option ℕ
+feed_place bytes = position (λ x. eqb x line_feed) bytes
 
 -- A text is checked: its refusal, and how many cycles and line starts it has, 0 if it is refused.
-pub record Check (text : List ℕ) (r : Checked) : Type 0 where
+pub record Check (text : List ℕ) (r : ReadingNumbers) : Type 0 where
   pub refusal : r.refusal ≡ text_refusal text
   pub cycles : r.cycles ≡ pick (eqb (text_refusal text) done) (length (cycles_in text)) 0
   pub starts : r.starts ≡ pick (eqb (text_refusal text) done) (length (starts_in text)) 0

@@ -1,6 +1,8 @@
 -- The refusal numbers of writing and reading a text; 0 means done.
-use Rattle.std.specs.Prelude.{ℕ, eqb}
+use Rattle.std.specs.Prelude.{ℕ, eqb, Result, Ok, Err}
 use Rattle.text.specs.Choose.{pick}
+use Rattle.text.specs.declared.refusals.Refusal.{Refusal}
+use Rattle.text.specs.declared.refusals.Refusal.TheVariants.{TooManyCycles, BadCycle, BadPlaces, TooShort, BadCharacter, EmptyLine, NoLineFeed}
 
 -- nothing is refused
 abbrev pub done : ℕ
@@ -33,6 +35,21 @@ empty_line = 18
 -- reading: the last line feed is missing
 abbrev pub no_line_feed : ℕ
 no_line_feed = 19
+
+-- The number of a refusal.
+abbrev pub number : Refusal → ℕ
+number TooManyCycles = too_many_cycles
+number BadCycle = bad_cycle
+number BadPlaces = bad_places
+number TooShort = too_short
+number BadCharacter = bad_character
+number EmptyLine = empty_line
+number NoLineFeed = no_line_feed
+
+-- The refusal number of a result, 0 if nothing is refused.
+abbrev pub refusal_number : {A : Type 0} → Result A Refusal → ℕ
+refusal_number (Ok a) = done
+refusal_number (Err r) = number r
 
 -- The first refusal of two that applies.
 abbrev pub first_of : ℕ → ℕ → ℕ

@@ -2,12 +2,8 @@
 use Rattle.std.specs.Prelude.{ℕ, ◌*◌, ◌≤◌, ◌≡◌, true, false, List, [], ◌∷◌, ◌++◌, length, take}
 use Rattle.text.specs.Refusals.{done, no_line_feed}
 use Rattle.text.specs.Text.{character_of, most_cycles, line_starts, text_of, over}
-use Rattle.text.specs.Write.{recording_refusal, WriteText}
-use Rattle.text.specs.Read.{refusal_at, cycles_in, starts_in, text_refusal, ReadText}
-use Rattle.text.specs.declared.write.Written.{Written}
-use Rattle.text.specs.declared.write.Written.TheVariants.{Bytes}
-use Rattle.text.specs.declared.read.Reading.{Reading}
-use Rattle.text.specs.declared.read.Reading.TheVariants.{Recording}
+use Rattle.text.specs.Write.{recording_refusal, Written, Bytes, WriteText}
+use Rattle.text.specs.Read.{refusal_at, cycles_in, starts_in, text_refusal, Reading, Recording, ReadText}
 
 -- The text of a recording that can be written is read as its cycles and its line starts.
 pub record Readable (cs ps : List ℕ) : Type 0 where

@@ -1,5 +1,5 @@
 -- What a text is: one line per frame, one capital hexadecimal digit per cycle, a line feed at the end of each line.
-use Rattle.std.specs.Prelude.{ℕ, ◌+◌, ◌-◌, ◌≡◌, Bool, true, false, ◌&&◌, List, [], ◌∷◌, ◌++◌, map, length, take, drop, ltb, leb, eqb}
+use Rattle.std.specs.Prelude.{ℕ, ◌+◌, ◌-◌, ◌^◌, ◌<◌, ◌≡◌, Bool, true, false, ◌&&◌, List, [], ◌∷◌, ◌++◌, map, length, take, drop, ltb, leb, eqb}
 use Rattle.std.proofs.Math.Seq.{paste}
 use Rattle.text.specs.Choose.{pick}
 use Rattle.text.specs.declared.characters.Character.{Character}
@@ -78,6 +78,10 @@ text_of cs ps = lines_from cs (line_starts cs ps)
 -- A buffer with a part written at its start; what lies after the part stays.
 unfoldable pub over : List ℕ → List ℕ → List ℕ
 over part before = part ++ drop (length part) before
+
+-- Whatever a closure answers at a byte is what f gives.
+abbrev pub Computes : (ℕ → ℕ → Type 0) → (ℕ → ℕ) → Type 0
+Computes post f = (x y : ℕ) → x < 2 ^ 8 → post x y → y ≡ f x
 
 -- A part was written from `at` on, and what lies around it stays; `behind` is the place after the part.
 pub record Put (before : List ℕ) (at : ℕ) (part : List ℕ) (behind : ℕ) (after : List ℕ) : Type 0 where

@@ -1,10 +1,9 @@
 -- Writing a text: what is refused, what is answered, and what is left in the lent buffer.
-use Rattle.std.specs.Prelude.{ℕ, ◌+◌, ◌≤◌, ◌<◌, ◌≡◌, true, not, List, [], length, ltb, eqb}
+use Rattle.std.specs.Prelude.{ℕ, ◌+◌, ◌≤◌, ◌<◌, ◌≡◌, true, not, List, [], length, ltb, eqb, Result, Ok, Err}
 use Rattle.text.specs.Choose.{pick}
-use Rattle.text.specs.Refusals.{done, too_many_cycles, bad_cycle, bad_places, too_short, first_of}
+use Rattle.text.specs.Refusals.{done, too_many_cycles, bad_cycle, bad_places, too_short, number, first_of}
 use Rattle.text.specs.Text.{most_cycles, cycles_fit, places_fit, between, line_of, lines_from, text_of, over}
-use Rattle.text.specs.declared.write.Written.{Written}
-use Rattle.text.specs.declared.write.Written.TheVariants.{Bytes, Refused}
+use Rattle.text.specs.declared.refusals.Refusal.{Refusal}
 
 -- 13, 14, 15, in this order: why a recording cannot be written.
 unfoldable pub recording_refusal : List ℕ → List ℕ → ℕ
@@ -17,6 +16,16 @@ recording_refusal cs ps =
 -- 13, 14, 15, then 16; nothing else is refused.
 unfoldable pub write_refusal : List ℕ → List ℕ → List ℕ → ℕ
 write_refusal cs ps buffer = first_of (recording_refusal cs ps) (pick (ltb (length buffer) (length (text_of cs ps))) too_short done)
+
+-- What writing answers: how many bytes were written, or a refusal number.
+pub data Written : Type 0 where
+  Bytes : ℕ → Written
+  Refused : ℕ → Written
+
+-- The answer that a result stands for.
+abbrev pub written_of : Result ℕ Refusal → Written
+written_of (Ok n) = Bytes n
+written_of (Err r) = Refused (number r)
 
 -- An answer as numbers.
 pub record WrittenNumbers : Type 0 where

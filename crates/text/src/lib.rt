@@ -2,10 +2,12 @@
 // Every public function takes any value of its parameters; contracts cite the definitions of specs/ by the same names.
 #![tactic(auto)]
 
-// Refusal numbers.
+// Refusals and their numbers.
 pub mod refusals;
 // Digits and line feeds.
 pub mod characters;
+// Lent buffers.
+mod put;
 // Cycles and places, written as a text.
 pub mod write;
 // A text, read as cycles and line starts.

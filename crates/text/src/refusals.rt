@@ -1,20 +1,26 @@
-// The refusal numbers of writing and reading a text, and the limit on cycles.
+// Why writing or reading a text is refused, and the limit on cycles.
+ghost use Rattle.std.specs.Prelude.{◌≡◌};
+ghost use Rattle.text.specs.Refusals.{number};
 
-pub const DONE: u8 = 0;
+// A refusal; C gets its number.
+#[derive(Clone, Copy, Debug, PartialEq, Eq)]
+pub enum Refusal {
+    TooManyCycles = 13,
+    BadCycle = 14,
+    BadPlaces = 15,
+    TooShort = 16,
+    BadCharacter = 17,
+    EmptyLine = 18,
+    NoLineFeed = 19,
+}
 
-pub const TOO_MANY_CYCLES: u8 = 13;
+impl From<Refusal> for u8 {
+    ghost from_gives = { λ refusal result. result ≡ number refusal };
 
-pub const BAD_CYCLE: u8 = 14;
-
-pub const BAD_PLACES: u8 = 15;
-
-pub const TOO_SHORT: u8 = 16;
-
-pub const BAD_CHARACTER: u8 = 17;
-
-pub const EMPTY_LINE: u8 = 18;
-
-pub const NO_LINE_FEED: u8 = 19;
+    fn from(refusal: Refusal) -> u8 {
+        refusal as u8
+    }
+}
 
 // How many cycles fit into a text.
 pub const MOST_CYCLES: usize = 4096;

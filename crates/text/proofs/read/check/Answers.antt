@@ -1,30 +1,28 @@
-use Rattle.text.proofs.Reading.{run_fits, run_ends, check_unended, check_refused, check_turn, check_end}
-use native.Mathlib.Omega.{arith}
+use Rattle.std.proofs.Common.{◌≡◌, ◌<◌, ◌≤◌, length, get_or, ap, ◌∙◌, rules}
+use Rattle.std.proofs.lemmas.Result.{err_from_is_err_and}
+use Rattle.text.specs.Text.{character_of}
+use Rattle.text.proofs.Reading.{check_unended, check_refused, check_turn, check_end}
+use Rattle.text.proofs.Digits.{refused_number}
 use Rattle.text.proofs.read.check.Goals as goal
 
-pub overflow_add-end : goal.overflow_add-end
-overflow_add-end c = let f = run_fits _ _ _ _ c.loop-at.invariant _ c.reach.ensures c.loop-at-test.true _ c.digit_run-run.ensures in omega arith
+pub returns-in_default : goal.returns-in_default
+returns-in_default c =
+    let some : 0 < length c.loop-rest.rest.now = search rules in
+    let ended : length c.loop-rest.rest.now ≤ c.digit_run-run.result = search rules in
+    check_unended _ _ _ _ c.loop-rest.invariant _ c.min-most.ensures _ c.digit_run-run.ensures some ended
 
-pub returns-then-end-text : goal.returns-then-end-text
-returns-then-end-text c = rw c.refused.ensures (check_unended _ _ _ _ c.loop-at.invariant _ c.reach.ensures c.loop-at-test.true _ c.digit_run-run.ensures c.if-end-text.true)
+pub returns-in_err-refusal_at : goal.returns-in_err-refusal_at
+returns-in_err-refusal_at c =
+    let p = err_from_is_err_and c.from_residual.result c.from_residual.ensures.1 in
+    let within : c.digit_run-run.result < length c.loop-rest.rest.now = search rules in
+    let byte : c.in-Some.byte.now ≡ get_or c.loop-rest.rest.now c.digit_run-run.result 0 = search rules in
+    rw (p.1, p.2) (check_refused _ _ _ _ c.loop-rest.invariant _ c.min-most.ensures _ c.digit_run-run.ensures within _ (c.from.ensures ∙ ap character_of byte) _ c.in_err-refusal_at.ensures (refused_number _))
 
-pub bounds-text-end : goal.bounds-text-end
-bounds-text-end c = run_ends _ _ _ _ c.loop-at.invariant _ c.reach.ensures c.loop-at-test.true _ c.digit_run-run.ensures c.if-end-text.false
-
-pub overflow_add-cycles : goal.overflow_add-cycles
-overflow_add-cycles c = let f = run_fits _ _ _ _ c.loop-at.invariant _ c.reach.ensures c.loop-at-test.true _ c.digit_run-run.ensures in omega arith
-
-pub returns-then-refusal-ne-DONE : goal.returns-then-refusal-ne-DONE
-returns-then-refusal-ne-DONE c = rw c.refused-then-refusal-ne-DONE.ensures (check_refused _ _ _ _ c.loop-at.invariant _ c.reach.ensures c.loop-at-test.true _ c.digit_run-run.ensures (run_ends _ _ _ _ c.loop-at.invariant _ c.reach.ensures c.loop-at-test.true _ c.digit_run-run.ensures c.if-end-text.false) _ c.character_of-kind.ensures _ c.refusal_at-refusal.ensures c.if-refusal-ne-DONE.true)
-
-pub overflow_add-cycles-in-loop-at : goal.overflow_add-cycles-in-loop-at
-overflow_add-cycles-in-loop-at c = let f = run_fits _ _ _ _ c.loop-at.invariant _ c.reach.ensures c.loop-at-test.true _ c.digit_run-run.ensures in omega arith
-
-pub overflow_add-at : goal.overflow_add-at
-overflow_add-at c = let f = run_ends _ _ _ _ c.loop-at.invariant _ c.reach.ensures c.loop-at-test.true _ c.digit_run-run.ensures c.if-end-text.false in omega arith
-
-pub loop-at-preserved : goal.loop-at-preserved
-loop-at-preserved c = check_turn _ _ _ _ c.loop-at.invariant _ c.reach.ensures c.loop-at-test.true _ c.digit_run-run.ensures (run_ends _ _ _ _ c.loop-at.invariant _ c.reach.ensures c.loop-at-test.true _ c.digit_run-run.ensures c.if-end-text.false) _ c.character_of-kind.ensures _ c.refusal_at-refusal.ensures c.if-refusal-ne-DONE.false
+pub loop-rest-preserved : goal.loop-rest-preserved
+loop-rest-preserved c =
+    let within : c.digit_run-run.result < length c.loop-rest.rest.now = search rules in
+    let byte : c.in-Some.byte.now ≡ get_or c.loop-rest.rest.now c.digit_run-run.result 0 = search rules in
+    check_turn _ _ _ _ c.loop-rest.invariant _ c.min-most.ensures _ c.digit_run-run.ensures within _ (c.from.ensures ∙ ap character_of byte) c.in_ok-refusal_at.ensures
 
 pub returns : goal.returns
-returns c = check_end _ _ _ _ c.loop-at.invariant c.loop-at-test.false
+returns c = let ended : length c.loop-rest.rest.now ≡ 0 = search rules in check_end _ _ _ _ c.loop-rest.invariant ended

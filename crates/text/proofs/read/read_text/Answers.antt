@@ -1,11 +1,23 @@
+use Rattle.std.proofs.Common.{refl, arith}
+use Rattle.std.proofs.lemmas.Bool.Decides.{nat_tests}
+use Rattle.std.proofs.lemmas.Result.{err_from_is_err_and}
 use Rattle.text.proofs.Reading.{read_refused, read_short, read_gives}
+use Rattle.text.proofs.Digits.{refused_number}
 use Rattle.text.proofs.read.read_text.Goals as goal
+use Rattle.text.proofs.read.read_text.Goals.{then-cycles-found-via-then-cycles-found, then-cycles-found-via-else-cycles-found+then-starts-found}
 
-pub returns-then-checked-ne-DONE : goal.returns-then-checked-ne-DONE
-returns-then-checked-ne-DONE c = read_refused _ _ _ _ c.check-checked.ensures c.if-checked-ne-DONE.true
+pub returns-in_err-found : goal.returns-in_err-found
+returns-in_err-found c =
+    let p = err_from_is_err_and c.from_residual.result c.from_residual.ensures.1 in
+    rw (p.1, p.2) (read_refused _ _ _ _ c.in_err-found.ensures (refused_number _))
 
-pub returns-then-short : goal.returns-then-short
-returns-then-short c = read_short _ _ _ _ c.check-checked.ensures c.if-checked-ne-DONE.false c.if-short.true
+pub returns-then-cycles-found : goal.returns-then-cycles-found
+returns-then-cycles-found c =
+    read_short _ _ _ _ c.in_ok-found.ensures refl
+    (elim c.then-cycles-found.branch [
+      | then-cycles-found-via-then-cycles-found w ↦ grind (arith, nat_tests)
+      | then-cycles-found-via-else-cycles-found+then-starts-found w ↦ grind (arith, nat_tests)
+    ])
 
 pub returns : goal.returns
-returns c = read_gives _ _ _ _ c.check-checked.ensures c.if-checked-ne-DONE.false c.if-short.false _ _ c.fill.ensures
+returns c = read_gives _ _ _ _ c.in_ok-found.ensures refl (grind (arith, nat_tests)) _ _ c.fill.ensures

@@ -1,8 +1,13 @@
+use Rattle.std.proofs.Common.{refl}
+use Rattle.std.proofs.lemmas.Result.{err_from_is_err_and}
 use Rattle.text.proofs.Writing.{write_gives, write_keeps}
+use Rattle.text.proofs.Digits.{refused_number}
 use Rattle.text.proofs.write.write_text.Goals as goal
 
-pub returns-then-refusal-eq-DONE : goal.returns-then-refusal-eq-DONE
-returns-then-refusal-eq-DONE c = write_gives _ _ _ _ c.write_refusal-refusal.ensures c.if-refusal-eq-DONE.true _ _ c.put_text-count.ensures
+pub returns-in_err-write_refusal : goal.returns-in_err-write_refusal
+returns-in_err-write_refusal c =
+    let p = err_from_is_err_and c.from_residual.result c.from_residual.ensures.1 in
+    rw (p.1, p.2) (write_keeps _ _ _ _ c.in_err-write_refusal.ensures (refused_number _))
 
 pub returns : goal.returns
-returns c = write_keeps _ _ _ _ c.write_refusal-refusal.ensures c.if-refusal-eq-DONE.false
+returns c = write_gives _ _ _ _ c.in_ok-write_refusal.ensures refl _ _ c.put_text.ensures

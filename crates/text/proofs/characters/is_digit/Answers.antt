@@ -1,5 +1,0 @@
-use Rattle.text.proofs.Digits.{digit_test}
-use Rattle.text.proofs.characters.is_digit.Goals as goal
-
-pub returns : goal.returns
-returns c = digit_test _

@@ -1,0 +1,20 @@
+// Lent buffers, written from a place on.
+ghost use Rattle.std.specs.Prelude.{ℕ, ◌+◌, ◌≤◌, map, length};
+ghost use Rattle.text.specs.Text.{Computes, Put};
+
+// Writes what `of` makes of each byte, from place `at` on; returns the next place.
+pub(crate) fn put_mapped<F: Fn(u8) -> u8>(
+    bytes: &[u8],
+    of: F,
+    buffer: &mut [u8],
+    at: usize,
+) -> usize
+    requires callable { F.IsAlwaysCallable of }
+    requires room { at + length bytes.now ≤ length buffer.old }
+    ensures { (f : ℕ → ℕ) → Computes (F.post of) f → Put buffer.old at (map f bytes.now) result buffer.new }
+{
+    for (i, byte) in bytes.iter().enumerate() {
+        buffer[at + i] = of(*byte);
+    }
+    at + bytes.len()
+}
