@@ -9,6 +9,7 @@ use Rattle.serial.specs.Cycle.{DeviceModel, reset_device, completed_in}
 use Rattle.serial.specs.Access.{read_answer_of, read_device, write_refusal_of, write_device}
 use Rattle.serial.specs.Pair.{PairModel, pair_run, pins_read, pair_lost}
 use Rattle.device_record.specs.Record.{record_length, encoded, decode, sound_bytes}
+pub use Rattle.device_record.specs.Refusals.{no_edition}
 use Rattle.device_record.specs.Run.{Losses, losses_of, after_bytes, outputs, lost_with, stops_on, count_until, written, wrong_length, unsound, run_refusal}
 use Rattle.device_record.specs.declared.calls.RunAnswer.{RunAnswer}
 use Rattle.device_record.specs.declared.calls.PairAnswer.{PairAnswer}
@@ -28,10 +29,6 @@ first_edition = 1
 -- the second edition
 abbrev pub second_edition : ℕ
 second_edition = 2
-
--- no such edition
-abbrev pub no_edition : ℕ
-no_edition = 20
 
 -- A reset is refused only with 10, then with 20, whatever the bytes held.
 unfoldable pub reset_refusal : List ℕ → ℕ → ℕ

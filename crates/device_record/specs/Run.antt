@@ -8,6 +8,7 @@ pub use Rattle.serial.specs.Lost.{losses_of}
 pub use Rattle.serial.specs.declared.lost.Losses.{Losses}
 use Rattle.serial.specs.Busy.{busy_device}
 use Rattle.device_record.specs.Record.{record_length, sound_bytes}
+pub use Rattle.device_record.specs.Refusals.{unsound, wrong_length, lines_differ, bad_input}
 use Rattle.device_record.specs.declared.run.Stop.{Stop}
 use Rattle.device_record.specs.declared.run.Stop.TheVariants.{Never, NotBusy}
 use Rattle.device_record.specs.declared.run.Ran.{Ran}
@@ -56,22 +57,6 @@ pub record RunUntil (stops : DeviceModel → Bool) (d : DeviceModel) (ins outs :
   pub output : outs' ≡ written d (count_until stops d (served ins outs)) ins outs
 
 -- Refusals -------------------------------------------------------------------------------------------------------------
-
--- the record is not 128 bytes long
-abbrev pub wrong_length : ℕ
-wrong_length = 10
-
--- input and output line buffers differ in length
-abbrev pub lines_differ : ℕ
-lines_differ = 11
-
--- an input line byte is above 7
-abbrev pub bad_input : ℕ
-bad_input = 12
-
--- the record is unsound
-abbrev pub unsound : ℕ
-unsound = 9
 
 -- The refusal number of a run or of a run to idle, 0 if it is done. All input bytes are checked, even those that a run to idle
 -- would not reach.
