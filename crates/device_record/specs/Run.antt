@@ -3,7 +3,7 @@ use Rattle.std.specs.Prelude.{ℕ, ◌+◌, ◌≡◌, Bool, true, false, not, �
 use Rattle.registers.specs.Choose.{pick}
 use Rattle.registers.specs.Refusals.{done}
 use Rattle.frames.specs.Lines.{pins_of, byte_of}
-use Rattle.serial.specs.Cycle.{DeviceModel, device_of, cycle_of, after, recording, lost_in}
+use Rattle.serial.specs.Cycle.{DeviceModel, cycle_of, after, recording, lost_in}
 pub use Rattle.serial.specs.Lost.{losses_of}
 pub use Rattle.serial.specs.declared.lost.Losses.{Losses}
 use Rattle.serial.specs.Busy.{busy_device}
@@ -50,9 +50,9 @@ unfoldable pub served : List ℕ → List ℕ → List ℕ
 served ins outs = pick (eqb (length ins) (length outs)) ins []
 
 -- A run with a stopping rule: its count, the device after it, the losses and the output.
-pub record RunUntil (stops : DeviceModel → Bool) (d : DeviceModel) (ins outs : List ℕ) (r : Ran) (outs' : List ℕ) : Type 0 where
+pub record RunUntil (stops : DeviceModel → Bool) (d : DeviceModel) (ins outs : List ℕ) (r : Ran) (d' : DeviceModel) (outs' : List ℕ) : Type 0 where
   pub count : r.count ≡ count_until stops d (served ins outs)
-  pub device : device_of r.device ≡ after_bytes d (take (count_until stops d (served ins outs)) ins)
+  pub device : d' ≡ after_bytes d (take (count_until stops d (served ins outs)) ins)
   pub lost : r.lost ≡ losses_of (lost_with d (take (count_until stops d (served ins outs)) ins))
   pub output : outs' ≡ written d (count_until stops d (served ins outs)) ins outs
 
