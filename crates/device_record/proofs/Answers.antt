@@ -18,14 +18,13 @@ use Rattle.serial.specs.Lost.{none_lost}
 use Rattle.registers.specs.declared.access.Answer.{Answer}
 use Rattle.registers.specs.declared.access.Answer.TheVariants.{Word, Refused}
 use Rattle.serial.specs.Cycle.{DeviceModel, device_of, reset_device}
-use Rattle.serial.specs.Access.{read_answer_of, read_device, write_refusal_of, write_device, Read, Write}
+use Rattle.serial.specs.Access.{read_device, write_device, Read, Write}
 use Rattle.serial.proofs.Accesses.{refused_read}
 use Rattle.device_record.specs.Record.{encoded, encode, decode, sound_bytes}
 use Rattle.device_record.specs.Run.{losses_of, after_bytes, outputs, lost_with, inputs_fit, stops_on, count_until, written, RunUntil, run_refusal}
 use Rattle.device_record.specs.Calls.{edition_of, pair_of_records, left_by, reset_refusal, record_refusal, read_call, write_call, run_count, run_lost, run_left, run_output, ResetCall, ReadCall, WriteCall, RunCall, RunsAll, pair_refusal, pair_after, pair_call_lost, PairCall}
 use Rattle.serial.specs.Pair.{PairModel, pair_run, pair_lost, swapped, pair_of, PairRun}
 use Rattle.serial.specs.declared.pair.PairRan.{PairRan}
-use Rattle.serial.specs.declared.lost.Losses.{Losses}
 use Rattle.serial.specs.declared.Device.{Device}
 use Rattle.serial.specs.declared.access.Reading.{Reading}
 use Rattle.serial.specs.declared.access.Written.{Written}

@@ -8,7 +8,7 @@ use native.Mathlib.Numerals.{add-one}
 use lib.Dec.{eqb}
 use mir.Val.{bool_byte}
 use lib.ListN.{length, get_or, take, drop, set, replicate, length-set, length-append, drop_of_length-le}
-use lib.Seq.{drop-cons, drop-drop, take_all, take_at, take-suc, take-suc-set, length-take-le, drop-append-add, paste, paste-zero, paste-suc, length-paste}
+use lib.Seq.{drop-drop, take_all, take_at, length-take-le, drop-append-add, paste, paste-zero, paste-suc, length-paste}
 use denote.Param.Members.{Mut, Called}
 use Rattle.std.specs.Array.{IsFromFnResultFrom}
 use Rattle.std.specs.Str.{bytes_eq}

@@ -13,12 +13,11 @@ use Rattle.std.specs.List.{fold}
 use Rattle.frames.specs.Lines.{pins_of, byte_of}
 use Rattle.registers.specs.Transfer.{lost_words}
 use Rattle.registers.specs.declared.transfer.Lost.{Lost}
-use Rattle.serial.specs.Cycle.{DeviceModel, device_of, cycle_of, lost_of}
+use Rattle.serial.specs.Cycle.{DeviceModel, cycle_of, lost_of}
 use Rattle.serial.specs.Lost.{highest, noted}
 use Rattle.serial.proofs.Losses.{Noting, noting_begin, noting_turn}
 use Rattle.device_record.specs.Run.{losses_of, after_bytes, outputs, lost_with, inputs_fit, stops_on, count_until, written, served, RunUntil}
 use Rattle.device_record.proofs.Bytes.{and_assoc, and-true}
-use Rattle.serial.specs.declared.Device.{Device}
 use Rattle.serial.specs.declared.lost.Losses.{Losses}
 use Rattle.device_record.specs.declared.run.Stop.TheVariants.{Never}
 

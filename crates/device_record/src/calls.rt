@@ -124,7 +124,12 @@ pub fn write_call(bytes: &mut [u8], offset: u32, value: u32) -> Result<(), Refus
 }
 
 // Runs cycles until the stopping rule holds, and counts them and the words lost in them.
-pub fn run_call(stop: Stop, bytes: &mut [u8], input: &[u8], output: &mut [u8]) -> Result<Ran, Refusal>
+pub fn run_call(
+    stop: Stop,
+    bytes: &mut [u8],
+    input: &[u8],
+    output: &mut [u8],
+) -> Result<Ran, Refusal>
     ensures { RunCall stop bytes.old input.now output.old (run_answer result) bytes.new output.new }
 {
     let mut device = device_to_run(bytes, input, output)?;

@@ -1,7 +1,7 @@
 use native.Mathlib.Omega.{arith}
-use mathlib.Core.Path.{◌≡◌, ap}
-use Prim.Native.Nat.{ℕ, ◌+◌}
-use Rattle.device_record.specs.Record.{byte_at, word_at, long_at}
+use mathlib.Core.Path.{◌≡◌}
+use Prim.Native.Nat.{◌+◌}
+use Rattle.device_record.specs.Record.{word_at, long_at}
 use Rattle.device_record.proofs.record.long_at.Goals as goal
 
 pub returns : goal.returns
