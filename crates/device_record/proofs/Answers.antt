@@ -8,21 +8,32 @@ use lib.Dec.{eqb}
 use lib.ListN.{length, take}
 use lib.Seq.{take-length}
 use borrow.Author.Tests.{eq-eqb, ne_eqb, eqb-true}
+use denote.Enum.Bare.{sameb}
+use Rattle.std.specs.Prelude.{◌≢◌, Result, Ok, Err, Option, Some, None, is_some, IfSome, IsErrAnd}
+use Rattle.std.specs.Option.{ok_or}
+use Rattle.std.proofs.lemmas.Result.{err_from_is_err_and}
 use Rattle.registers.specs.Choose.{pick}
+use Rattle.registers.specs.Refusals.{first_of}
+use Rattle.serial.specs.Lost.{none_lost}
 use Rattle.registers.specs.declared.access.Answer.{Answer}
 use Rattle.registers.specs.declared.access.Answer.TheVariants.{Word, Refused}
 use Rattle.serial.specs.Cycle.{DeviceModel, device_of, reset_device}
-use Rattle.serial.specs.Access.{read_answer_of, read_device, write_refusal_of, write_device, Read, Write}
+use Rattle.serial.specs.Access.{read_device, write_device, Read, Write}
 use Rattle.serial.proofs.Accesses.{refused_read}
 use Rattle.device_record.specs.Record.{encoded, encode, decode, sound_bytes}
 use Rattle.device_record.specs.Run.{losses_of, after_bytes, outputs, lost_with, inputs_fit, stops_on, count_until, written, RunUntil, run_refusal}
-use Rattle.device_record.specs.Calls.{left_by, reset_refusal, record_refusal, read_call, write_call, run_count, run_lost, run_left, run_output, ResetCall, ReadCall, WriteCall, RunCall, RunsAll, pair_refusal, pair_after, pair_call_lost, PairCall}
+use Rattle.device_record.specs.Calls.{edition_of, pair_of_records, left_by, reset_refusal, record_refusal, read_call, write_call, run_count, run_lost, run_left, run_output, ResetCall, ReadCall, WriteCall, RunCall, RunsAll, pair_refusal, pair_after, pair_call_lost, PairCall}
 use Rattle.serial.specs.Pair.{PairModel, pair_run, pair_lost, swapped, pair_of, PairRun}
 use Rattle.serial.specs.declared.pair.PairRan.{PairRan}
-use Rattle.serial.specs.declared.lost.Losses.{Losses}
 use Rattle.serial.specs.declared.Device.{Device}
 use Rattle.serial.specs.declared.access.Reading.{Reading}
 use Rattle.serial.specs.declared.access.Written.{Written}
+use Rattle.device_record.specs.Refusals.{number, refusal_number, Checks}
+use Rattle.device_record.specs.declared.refusals.Refusal.{Refusal}
+use Rattle.device_record.specs.declared.refusals.Refusal.TheVariants.{Unsound, NoEdition}
+use Rattle.device_record.specs.declared.calls.Edition.{Edition}
+use Rattle.device_record.specs.declared.calls.Edition.TheVariants.{First, Second}
+use Rattle.device_record.specs.contracts.calls.Edition.{the_type}
 use Rattle.device_record.specs.declared.run.Ran.{Ran}
 use Rattle.device_record.specs.declared.run.Stop.{Stop}
 use Rattle.device_record.specs.declared.run.Stop.TheVariants.{Never}
@@ -38,20 +49,89 @@ stored : (b b' : List ℕ) (d m : DeviceModel) → eqb (length b) 128 ≡ true �
 unfolding encode
 stored b b' d m l e h = e ∙ rw (l, h)
 
+or_swap : (a b : Bool) → (a || b) ≡ (b || a)
+or_swap true true = refl
+or_swap true false = refl
+or_swap false true = refl
+or_swap false false = refl
+
+-- Either order is refused with the same number.
+pub pair_refusal_swap : (one two : List ℕ) → pair_refusal two one ≡ pair_refusal one two
+unfolding pair_refusal
+pair_refusal_swap one two =
+    ap₂ (λ (s t : Bool). pick s 10 (pick t 9 0))
+    (or_swap (not (eqb (length two) 128)) (not (eqb (length one) 128)))
+    (or_swap (not (sound_bytes two)) (not (sound_bytes one)))
+
+-- Refusals -------------------------------------------------------------------------------------------------------------
+
+-- What the exit of a `?` hands on.
+pub handed_on : {A : Type 0} (r : Result A Refusal) (e : Refusal) → IsErrAnd r (λ y. y ≡ e) → r ≡ Err e
+handed_on r e h = let p = err_from_is_err_and r h in p.1 ∙ ap Err p.2
+
+-- A number that is not 0 refuses.
+refuses : (n m : ℕ) → 0 < n → n ≡ m → (n ≡ m) × (m ≢ 0)
+refuses n m h e = (e, λ z. absurd (omega arith))
+
+-- Records of the wrong length.
+module _ (b : List ℕ) (h : length b ≢ 128) where
+  pub short_record : (10 ≡ record_refusal b) × (record_refusal b ≢ 0)
+  unfolding record_refusal
+  short_record = refuses 10 (record_refusal b) (omega arith) (rw (ne_eqb (length b) 128 h))
+
+  pub short_run : (i o : List ℕ) → (10 ≡ run_refusal b i o) × (run_refusal b i o ≢ 0)
+  unfolding run_refusal
+  short_run i o = refuses 10 (run_refusal b i o) (omega arith) (rw (ne_eqb (length b) 128 h))
+
+  pub short_first : (c : List ℕ) → (10 ≡ pair_refusal b c) × (pair_refusal b c ≢ 0)
+  unfolding pair_refusal
+  short_first c = refuses 10 (pair_refusal b c) (omega arith) (rw (ne_eqb (length b) 128 h))
+
+  pub short_second : (c : List ℕ) → (10 ≡ pair_refusal c b) × (pair_refusal c b ≢ 0)
+  short_second c = rw (pair_refusal_swap b c) (short_first c)
+
+-- The device of a record of the right length.
+pub sound_or_not : (b : List ℕ) → length b ≡ 128 → (o : Option Device) → is_some o ≡ sound_bytes b → IfSome o (λ d. device_of d ≡ decode b) → Checks (record_refusal b) (λ d. device_of d ≡ decode b) (ok_or o Unsound)
+unfolding record_refusal
+sound_or_not b l (Some d) s e = (rw (eq-eqb (length b) 128 l, ← s), e)
+sound_or_not b l None s e = refuses 9 (record_refusal b) (omega arith) (rw (eq-eqb (length b) 128 l, ← s))
+
 -- Reset ----------------------------------------------------------------------------------------------------------------
 
-reset_passes : (b : List ℕ) (edition : ℕ) → reset_refusal b edition ≡ 0 → eqb (length b) 128 ≡ true
-unfolding reset_refusal
-reset_passes b edition z = (passes (eqb (length b) 128) 10 (pick (eqb edition 1 || eqb edition 2) 0 20) (omega arith) z).0
+-- An edition or none, by the two tests of its number.
+known : (s t : Bool) (k : Edition) → (s ≡ true → t ≡ false) → Ok k ≡ pick s (Ok First) (pick t (Ok Second) (Err NoEdition)) → ((s || t) ≡ true) × (sameb the_type k Second ≡ t)
+known true t First n h = (refl, sym (n refl))
+known true t Second n h = cc
+known false true First n h = cc
+known false true Second n h = (refl, refl)
+known false false k n h = cc
 
-module _ (b : List ℕ) (edition n : ℕ) (e : n ≡ reset_refusal b edition) where
-  pub reset_done : (b' : List ℕ) (d : DeviceModel) → n ≡ 0 → d ≡ reset_device (eqb edition 2) → b' ≡ encode d b → ResetCall b edition n b'
-  reset_done b' d t h k =
-      let z : reset_refusal b edition ≡ 0 = sym e ∙ t in
-      record { refusal = e; left = rw z (stored b b' d (reset_device (eqb edition 2)) (reset_passes b edition z) k h) }
+unknown : (s t : Bool) (e : Refusal) → Err e ≡ pick s (Ok First) (pick t (Ok Second) (Err NoEdition)) → ((s || t) ≡ false) × (number e ≡ 20)
+unknown true t e h = cc
+unknown false true e h = cc
+unknown false false e h = (refl, ap refusal_number h)
 
-  pub reset_refused : (n ≡ 0 → ⊥) → ResetCall b edition n b
-  reset_refused f = record { refusal = e; left = rw (← e, ne_eqb n 0 f) }
+module _ (b : List ℕ) (edition : ℕ) where
+  pub reset_refused : (n : ℕ) → n ≡ reset_refusal b edition → n ≢ 0 → ResetCall b edition n b
+  reset_refused n e f = record { refusal = e; left = rw (← e, ne_eqb n 0 f) }
+
+  pub reset_short : length b ≢ 128 → ResetCall b edition 10 b
+  unfolding reset_refusal
+  reset_short h = reset_refused 10 (rw (ne_eqb (length b) 128 h)) (λ z. absurd (omega arith))
+
+  module _ (l : length b ≡ 128) where
+    pub reset_no_edition : (e : Refusal) → Err e ≡ edition_of edition → ResetCall b edition (number e) b
+    unfolding reset_refusal
+    reset_no_edition e h =
+        let u = unknown (eqb edition 1) (eqb edition 2) e h in
+        reset_refused (number e) (rw (eq-eqb (length b) 128 l, u.0) u.1) (λ z. let w = u.1 in absurd (omega arith))
+
+    pub reset_done : (k : Edition) (b' : List ℕ) (d : DeviceModel) → Ok k ≡ edition_of edition → d ≡ reset_device (sameb the_type k Second) → b' ≡ encode d b → ResetCall b edition 0 b'
+    unfolding reset_refusal
+    reset_done k b' d h e m =
+        let u = known (eqb edition 1) (eqb edition 2) k (λ q. let one = eqb-true edition 1 q in ne_eqb edition 2 (λ z. absurd (omega arith))) h in
+        let z : reset_refusal b edition ≡ 0 = rw (eq-eqb (length b) 128 l, u.0) in
+        record { refusal = sym z; left = rw z (stored b b' d (reset_device (eqb edition 2)) (eq-eqb (length b) 128 l) m (rw u.1 at e)) }
 
 -- Accesses -------------------------------------------------------------------------------------------------------------
 
@@ -59,49 +139,43 @@ record_passes : (b : List ℕ) → record_refusal b ≡ 0 → eqb (length b) 128
 unfolding record_refusal
 record_passes b z = (passes (eqb (length b) 128) 10 (pick (not (sound_bytes b)) 9 0) (omega arith) z).0
 
-module _ (b : List ℕ) (o n : ℕ) (e : n ≡ record_refusal b) where
-  read_answer_lem : (a : Answer) → n ≡ 0 → read_answer_of (decode b) o ≡ a → read_call b o ≡ a
+module _ (b : List ℕ) (o : ℕ) where
+  pub read_unserved : (n : ℕ) → (n ≡ record_refusal b) × (record_refusal b ≢ 0) → ReadCall b o (Refused n) b
   unfolding read_call
-  read_answer_lem a t h = rw (← e, eq-eqb n 0 t) h
+  read_unserved n e = let k = ne_eqb (record_refusal b) 0 e.1 in record { answer = rw (e.0, k); left = rw (k, k) }
 
-  module _ (s : Device) (r : Reading) (h : device_of s ≡ decode b) (g : Read (device_of s) o r) (t : n ≡ 0) where
-    pub read_done_lem : (b' : List ℕ) (w : ℕ) → r.answer ≡ Word w → b' ≡ encode (device_of r.device) b → ReadCall b o r.answer b'
+  module _ (z : record_refusal b ≡ 0) (s : Device) (r : Reading) (h : device_of s ≡ decode b) (g : Read (device_of s) o r) where
+    read_answer_lem : (a : Answer) → r.answer ≡ a → read_call b o ≡ a
+    unfolding read_call
+    read_answer_lem a q = rw z (rw (← h) (sym g.answer ∙ q))
+
+    pub read_done_lem : (b' : List ℕ) (w : ℕ) → r.answer ≡ Word w → b' ≡ encode (device_of r.device) b → ReadCall b o (Word w) b'
     read_done_lem b' w q k =
-        let a = read_answer_lem (Word w) t (rw (← h) (sym g.answer ∙ q)) in
-        let l = record_passes b (sym e ∙ t) in
-        record { answer = q ∙ sym a; left = rw a (stored b b' (device_of r.device) (read_device (decode b) o) l k (rw (← h) g.device)) }
+        let a = read_answer_lem (Word w) q in
+        record { answer = sym a; left = rw a (stored b b' (device_of r.device) (read_device (decode b) o) (record_passes b z) k (rw (← h) g.device)) }
 
-    pub read_refused : (k : ℕ) → r.answer ≡ Refused k → ReadCall b o r.answer b
+    pub read_refused : (k : ℕ) → r.answer ≡ Refused k → ReadCall b o (Refused k) b
     read_refused k q =
-        let p : read_answer_of (decode b) o ≡ Refused k = rw (← h) (sym g.answer ∙ q) in
-        let a = read_answer_lem (Refused k) t p in
-        record { answer = q ∙ sym a; left = rw (a, refused_read (decode b) o k p) }
+        let a = read_answer_lem (Refused k) q in
+        record { answer = sym a; left = rw (a, refused_read (decode b) o k (rw (← h) (sym g.answer ∙ q))) }
 
-  pub read_unserved : (n ≡ 0 → ⊥) → ReadCall b o (Refused n) b
-  unfolding read_call
-  read_unserved f = let k = ne_eqb n 0 f in record { answer = rw (← e, k); left = rw (← e, k, k) }
-
-module _ (b : List ℕ) (o v n : ℕ) (e : n ≡ record_refusal b) where
-  write_number : n ≡ 0 → write_call b o v ≡ write_refusal_of (decode b) o v
+module _ (b : List ℕ) (o v : ℕ) where
+  pub write_unserved : (n : ℕ) → (n ≡ record_refusal b) × (record_refusal b ≢ 0) → WriteCall b o v n b
   unfolding write_call
-  write_number t = rw (← e, eq-eqb n 0 t)
+  write_unserved n e = let k = ne_eqb (record_refusal b) 0 e.1 in record { refusal = rw (e.0, k); left = rw (k, k) }
 
-  module _ (s : Device) (r : Written) (h : device_of s ≡ decode b) (g : Write (device_of s) o v r) (t : n ≡ 0) where
+  module _ (z : record_refusal b ≡ 0) (s : Device) (r : Written) (h : device_of s ≡ decode b) (g : Write (device_of s) o v r) where
     write_refusal_lem : r.refusal ≡ write_call b o v
-    write_refusal_lem = (rw h at g.refusal) ∙ sym (write_number t)
+    unfolding write_call
+    write_refusal_lem = rw z (rw h at g.refusal)
 
-    pub write_done_lem : (b' : List ℕ) → r.refusal ≡ 0 → b' ≡ encode (device_of r.device) b → WriteCall b o v r.refusal b'
+    pub write_done_lem : (b' : List ℕ) → r.refusal ≡ 0 → b' ≡ encode (device_of r.device) b → WriteCall b o v 0 b'
     write_done_lem b' q k =
-        let z : write_call b o v ≡ 0 = sym write_refusal_lem ∙ q in
-        let l = record_passes b (sym e ∙ t) in
-        record { refusal = write_refusal_lem; left = rw z (stored b b' (device_of r.device) (write_device (decode b) o v) l k (rw (← h) g.device)) }
+        let y : write_call b o v ≡ 0 = sym write_refusal_lem ∙ q in
+        record { refusal = sym y; left = rw y (stored b b' (device_of r.device) (write_device (decode b) o v) (record_passes b z) k (rw (← h) g.device)) }
 
-    pub write_refused : (r.refusal ≡ 0 → ⊥) → WriteCall b o v r.refusal b
+    pub write_refused : r.refusal ≢ 0 → WriteCall b o v r.refusal b
     write_refused q = record { refusal = write_refusal_lem; left = rw (← write_refusal_lem, ne_eqb r.refusal 0 q) }
-
-  pub write_unserved : (n ≡ 0 → ⊥) → WriteCall b o v n b
-  unfolding write_call
-  write_unserved f = let k = ne_eqb n 0 f in record { refusal = rw (← e, k); left = rw (← e, k, k) }
 
 -- Runs -----------------------------------------------------------------------------------------------------------------
 
@@ -113,25 +187,39 @@ run_passes b i o z =
     let r = passes (inputs_fit i) 12 (pick (not (sound_bytes b)) 9 0) (omega arith) q.1 in
     (p.0, eqb-true (length i) (length o) q.0, (passes (sound_bytes b) 9 0 (omega arith) r.1).0)
 
-module _ (stop : Stop) (b i o : List ℕ) (n : ℕ) (e : n ≡ run_refusal b i o) where
-  pub run-done : (s : Device) (r : Ran) → device_of s ≡ decode b → (b' o' : List ℕ) → n ≡ 0 → b' ≡ encode (device_of r.device) b
-      → RunUntil (stops_on stop) (device_of s) i o r o' → RunCall stop b i o (record { refusal = 0; count = r.count; lost = r.lost }) b' o'
+-- The tests of a run in their order.
+module _ (b i o : List ℕ) (l : length b ≡ 128) where
+  pub run_lines : length i ≢ length o → (11 ≡ run_refusal b i o) × (run_refusal b i o ≢ 0)
+  unfolding run_refusal
+  run_lines h = refuses 11 (run_refusal b i o) (omega arith) (rw (eq-eqb (length b) 128 l, ne_eqb (length i) (length o) h))
+
+  module _ (m : length i ≡ length o) where
+    pub run_input : inputs_fit i ≡ false → (12 ≡ run_refusal b i o) × (run_refusal b i o ≢ 0)
+    unfolding run_refusal
+    run_input h = refuses 12 (run_refusal b i o) (omega arith) (rw (eq-eqb (length b) 128 l, eq-eqb (length i) (length o) m, h))
+
+    pub run_record : inputs_fit i ≡ true → record_refusal b ≡ run_refusal b i o
+    unfolding run_refusal record_refusal
+    run_record h = rw (eq-eqb (length b) 128 l, eq-eqb (length i) (length o) m, h)
+
+module _ (stop : Stop) (b i o : List ℕ) where
+  pub run-done : run_refusal b i o ≡ 0 → (s : Device) (r : Ran) (d' : DeviceModel) → device_of s ≡ decode b → (b' o' : List ℕ) → b' ≡ encode d' b
+      → RunUntil (stops_on stop) (device_of s) i o r d' o' → RunCall stop b i o (record { refusal = 0; count = r.count; lost = r.lost }) b' o'
   unfolding run_count run_lost
-  run-done s r h b' o' t k g =
-      let z : run_refusal b i o ≡ 0 = sym e ∙ t in
+  run-done z s r d' h b' o' k g =
       let p = run_passes b i o z in
       let a = served_all i o p.1 in
       record {
         refusal = sym z;
         count = rw z (g.count ∙ rw (a, h));
         lost = rw z (g.lost ∙ rw (a, h));
-        left = rw z (stored b b' (device_of r.device) (after_bytes (decode b) (take (count_until (stops_on stop) (decode b) i) i)) p.0 k (g.device ∙ rw (a, h)));
+        left = rw z (stored b b' d' (after_bytes (decode b) (take (count_until (stops_on stop) (decode b) i) i)) p.0 k (g.device ∙ rw (a, h)));
         output = rw z (g.output ∙ rw (a, h));
       }
 
-  pub run_unserved : (l : Losses) → l ≡ losses_of [] → (n ≡ 0 → ⊥) → RunCall stop b i o (record { refusal = n; count = 0; lost = l }) b o
+  pub run_unserved : (n : ℕ) → (n ≡ run_refusal b i o) × (run_refusal b i o ≢ 0) → RunCall stop b i o (record { refusal = n; count = 0; lost = none_lost }) b o
   unfolding run_count run_lost
-  run_unserved l j f = let k = ne_eqb n 0 f in record { refusal = e; count = rw (← e, k); lost = rw (← e, k) j; left = rw (← e, k); output = rw (← e, k) }
+  run_unserved n e = let k = ne_eqb (run_refusal b i o) 0 e.1 in record { refusal = e.0; count = rw k; lost = rw k; left = rw k; output = rw k }
 
 -- A run without a stopping rule runs a cycle for each input byte.
 module _ (b i o : List ℕ) where
@@ -187,26 +275,30 @@ pair_passes one two z =
     let s = either (sound_bytes one) (sound_bytes two) 9 0 (omega arith) l.2 in
     (l.0, l.1, s.0, s.1)
 
-or_swap : (a b : Bool) → (a || b) ≡ (b || a)
-or_swap true true = refl
-or_swap true false = refl
-or_swap false true = refl
-or_swap false false = refl
+-- The tests of a pair run in their order.
+module _ (one two : List ℕ) (l : length one ≡ 128) (m : length two ≡ 128) where
+  pub pair_number : pair_refusal one two ≡ first_of (record_refusal one) (record_refusal two)
+  unfolding pair_refusal record_refusal
+  pair_number = rw (eq-eqb (length one) 128 l, eq-eqb (length two) 128 m) (go (sound_bytes one) (sound_bytes two))
+    where
+      go : (s t : Bool) → pick (not s || not t) 9 0 ≡ first_of (pick (not s) 9 0) (pick (not t) 9 0)
+      go true t = refl
+      go false t = refl
 
--- Either order is refused with the same number.
-pub pair_refusal_swap : (one two : List ℕ) → pair_refusal two one ≡ pair_refusal one two
-unfolding pair_refusal
-pair_refusal_swap one two =
-    ap₂ (λ (s t : Bool). pick s 10 (pick t 9 0))
-    (or_swap (not (eqb (length two) 128)) (not (eqb (length one) 128)))
-    (or_swap (not (sound_bytes two)) (not (sound_bytes one)))
+  pub first_unsound : (n : ℕ) → (n ≡ record_refusal one) × (record_refusal one ≢ 0) → (n ≡ pair_refusal one two) × (pair_refusal one two ≢ 0)
+  first_unsound n e = rw (pair_number, ne_eqb (record_refusal one) 0 e.1) e
 
-module _ (one two : List ℕ) (n : ℕ) (e : n ≡ pair_refusal one two) where
-  pub pair_done : (cycles : ℕ) (one' two' : List ℕ) (p : PairModel) (r : PairRan) → n ≡ 0 → PairRun cycles p r → p ≡ record { first = decode one; second = decode two }
+  pub second_unsound : record_refusal one ≡ 0 → (n : ℕ) → (n ≡ record_refusal two) × (record_refusal two ≢ 0) → (n ≡ pair_refusal one two) × (pair_refusal one two ≢ 0)
+  second_unsound z n e = rw (pair_number, z) e
+
+  pub both_sound : record_refusal one ≡ 0 → record_refusal two ≡ 0 → pair_refusal one two ≡ 0
+  both_sound z y = rw (pair_number, z, y)
+
+module _ (one two : List ℕ) where
+  pub pair_done : pair_refusal one two ≡ 0 → (cycles : ℕ) (one' two' : List ℕ) (p : PairModel) (r : PairRan) → PairRun cycles p r → p ≡ pair_of_records one two
       → one' ≡ encode (device_of r.pair.first) one → two' ≡ encode (device_of r.pair.second) two → PairCall one two cycles (record { refusal = 0; first = r.first; second = r.second }) one' two'
   unfolding pair_after pair_of pair_call_lost
-  pair_done cycles one' two' p r t h s j k =
-      let z : pair_refusal one two ≡ 0 = sym e ∙ t in
+  pair_done z cycles one' two' p r h s j k =
       let z' : pair_refusal two one ≡ 0 = pair_refusal_swap one two ∙ z in
       let l = pair_passes one two z in
       let g : pair_of r.pair ≡ pair_after one two cycles = h.pair ∙ ap (pair_run cycles) s in
@@ -218,8 +310,8 @@ module _ (one two : List ℕ) (n : ℕ) (e : n ≡ pair_refusal one two) where
         second_left = stored two two' (device_of r.pair.second) (pair_after one two cycles).second l.1 k (ap (λ (x : PairModel). x.second) g) ∙ sym (ap (λ (x : ℕ). pick (eqb x 0) (encoded (pair_after one two cycles).second) two) z);
       }
 
-  pub pair_refused : (cycles : ℕ) (l m : Losses) → l ≡ losses_of [] → m ≡ losses_of [] → (n ≡ 0 → ⊥) → PairCall one two cycles (record { refusal = n; first = l; second = m }) one two
+  pub pair_unserved : (cycles n : ℕ) → (n ≡ pair_refusal one two) × (pair_refusal one two ≢ 0) → PairCall one two cycles (record { refusal = n; first = none_lost; second = none_lost }) one two
   unfolding pair_call_lost
-  pair_refused cycles l m j j' f =
-      let k = ne_eqb n 0 f in
-      record { refusal = e; first_lost = rw (← e, k) j; second_lost = rw (pair_refusal_swap one two, ← e, k) j'; first_left = rw (← e, k); second_left = rw (← e, k) }
+  pair_unserved cycles n e =
+      let k = ne_eqb (pair_refusal one two) 0 e.1 in
+      record { refusal = e.0; first_lost = rw k; second_lost = rw (pair_refusal_swap one two, k); first_left = rw k; second_left = rw k }

@@ -1,6 +1,6 @@
 -- The loops over a record's bytes, each with a law for its start, a turn and its end, and the parts that make up a record.
 use Prim.Native.Nat.{ℕ, zero, suc, ◌+◌, ◌*◌, ◌/◌, ◌%◌, ◌≤◌, ◌<◌}
-use mathlib.Core.Path.{◌≡◌, refl, sym, ◌∙◌, ap}
+use mathlib.Core.Path.{◌≡◌, refl, sym, ◌∙◌, ap, subst}
 use mathlib.Core.List.{List, [], ◌∷◌, ◌++◌, append_assoc, append-nil}
 use mathlib.Core.Bool.{Bool, true, false, ◌&&◌}
 use native.Mathlib.Omega.{arith}
@@ -8,7 +8,11 @@ use native.Mathlib.Numerals.{add-one}
 use lib.Dec.{eqb}
 use mir.Val.{bool_byte}
 use lib.ListN.{length, get_or, take, drop, set, replicate, length-set, length-append, drop_of_length-le}
-use lib.Seq.{drop-cons, drop-drop, take_all, take_at, take-suc, take-suc-set, length-take-le, drop-append-add, paste, paste-zero, paste-suc, length-paste}
+use lib.Seq.{drop-drop, take_all, take_at, length-take-le, drop-append-add, paste, paste-zero, paste-suc, length-paste}
+use denote.Param.Members.{Mut, Called}
+use Rattle.std.specs.Array.{IsFromFnResultFrom}
+use Rattle.std.specs.Str.{bytes_eq}
+use Rattle.std.proofs.lemmas.List.FromFn.{fill_by_all}
 use Rattle.registers.specs.Fields.{fields_of}
 use Rattle.registers.specs.Model.{Model}
 use Rattle.registers.specs.declared.fields.Fields.{Fields}
@@ -113,14 +117,18 @@ words_turn from at ws to i k h =
     let n : 2 * i + 1 + 1 ≡ 2 * (i + 1) = omega arith in
     rw (e, n) at second
 
--- the first k of eight words are read
-pub record Reading (b : List ℕ) (i : ℕ) (ws : List ℕ) (k : ℕ) : Type 0 where
-  pub within : k ≤ 8
-  pub long : length ws ≡ 8
-  pub front : take k ws ≡ take k (words_at b i)
+-- what `array::from_fn` makes with a closure that answers h x at x and stays as it is
+pub made_at : {F : Type 0} (g : Mut F (ℕ × Unit {0}) ℕ) (h : ℕ → ℕ) (f : F) (ys : List ℕ) (i n : ℕ) → ((x y : ℕ) (q : F) → Called g f (x, tt) y q → (q ≡ f) × (y ≡ h x))
+    → IsFromFnResultFrom g f ys i n → (k j : ℕ) → k < n → i + k ≡ j → get_or ys j 0 ≡ h j
+made_at g h f ys i zero step r k j l e = absurd (omega arith)
+made_at g h f ys i (suc n) step (q, y, place, called, rest) zero j l e =
+    let at : i ≡ j = omega arith in
+    rw (← at) (place.1 0 ∙ (step i y q called).1)
+made_at {F} g h f ys i (suc n) step (q, y, place, called, rest) (suc k) j l e =
+    let same = subst (λ (s : F). IsFromFnResultFrom g s ys (i + 1) n) (step i y q called).0 rest in
+    made_at g h f ys (i + 1) n step same k j (omega arith) (omega arith)
 
-pub read_start : (b : List ℕ) (i : ℕ) (ws : List ℕ) → length ws ≡ 8 → Reading b i ws 0
-read_start b i ws l = record { within = omega arith; long = l; front = refl }
+-- eight words, each read at its place
 
 module _ (b : List ℕ) (i : ℕ) where
   word_there : (k : ℕ) → k < 8 → get_or (words_at b i) k 0 ≡ word_at b (i + 2 * k)
@@ -139,50 +147,19 @@ module _ (b : List ℕ) (i : ℕ) where
   unfolding words_at
   length_eight = refl
 
-  pub read_turn : (ws : List ℕ) (k w : ℕ) → Reading b i ws k → k < 8 → w ≡ word_at b (i + 2 * k) → Reading b i (set ws k w) (k + 1)
-  read_turn ws k w r h e =
-      let l = r.long in
-      let l8 = length_eight in
-      record {
-        within = omega arith;
-        long = length-set ws k w ∙ r.long;
-        front =
-            rw (add-one, take-suc-set ws k w (omega arith), r.front, e, ← word_there k h)
-            (sym (take-suc (words_at b i) k 0 (omega arith)));
-      }
+  pub words_read : (ws : List ℕ) → length ws ≡ 8 → ((k : ℕ) → k < 8 → get_or ws k 0 ≡ word_at b (i + 2 * k)) → ws ≡ words_at b i
+  words_read ws l each =
+      fill_by_all (λ k. word_at b (i + 2 * k)) ws 8 0 l each
+      ∙ sym (fill_by_all (λ k. word_at b (i + 2 * k)) (words_at b i) 8 0 length_eight word_there)
 
-  pub read_end : (ws : List ℕ) (k : ℕ) → Reading b i ws k → 8 ≤ k → ws ≡ words_at b i
-  read_end ws k r h =
-      let w = r.within in
-      let l = r.long in
-      let l8 = length_eight in
-      sym (take_all k ws (omega arith)) ∙ (r.front ∙ take_all k (words_at b i) (omega arith))
+-- two lists are compared
 
--- `all` says whether a and b agree before i
-pub record Agreed (a b : List ℕ) (all : Bool) (i : ℕ) : Type 0 where
-  pub within : i ≤ length a
-  pub long : length a ≡ length b
-  pub rest : eq_list a b ≡ all && eq_list (drop i a) (drop i b)
-
-pub agree_start : (a b : List ℕ) → length a ≡ length b → Agreed a b true 0
-agree_start a b h = record { within = omega arith; long = h; rest = refl }
-
-module _ (a b : List ℕ) (all : Bool) (i : ℕ) (k : Agreed a b all i) where
-  pub agree_turn : i < length a → Agreed a b (all && eqb (get_or a i 0) (get_or b i 0)) (i + 1)
-  unfolding eq_list
-  agree_turn h =
-      let l = k.long in
-      record {
-        within = omega arith;
-        long = k.long;
-        rest = k.rest ∙ rw (add-one, drop-cons a i 0 h, drop-cons b i 0 (omega arith)) (sym (and_assoc all (eqb (get_or a i 0) (get_or b i 0)) (eq_list (drop (suc i) a) (drop (suc i) b))));
-      }
-
-  pub agree_end : length a ≤ i → all ≡ eq_list a b
-  unfolding eq_list
-  agree_end h =
-      let l = k.long in
-      sym (k.rest ∙ rw (drop_of_length-le a {i = i} h, drop_of_length-le b {i = i} (omega arith)) (and-true all))
+pub eq_list_lem : (xs ys : List ℕ) → bytes_eq xs ys ≡ eq_list xs ys
+unfolding eq_list
+eq_list_lem [] [] = refl
+eq_list_lem [] (y ∷ ys) = refl
+eq_list_lem (x ∷ xs) [] = refl
+eq_list_lem (x ∷ xs) (y ∷ ys) = ap (λ (t : Bool). eqb x y && t) (eq_list_lem xs ys)
 
 -- parts put one after the other
 

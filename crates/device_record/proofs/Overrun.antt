@@ -16,9 +16,8 @@ use Rattle.serial.proofs.Losses.{lost_in_run, numbers}
 use Rattle.serial.proofs.PairRuns.{first_is_run}
 use Rattle.device_record.specs.Record.{encoded, decode}
 use Rattle.device_record.specs.Run.{Losses, losses_of, after_bytes, lost_with, run_refusal}
-use Rattle.device_record.specs.Calls.{run_count, run_lost, run_left, pair_refusal, pair_of_records, pair_after, pair_left, pair_call_lost, RunCall, Records, ror_in, any_lost, RorAgrees, Accounted, AllAccounted}
+use Rattle.device_record.specs.Calls.{RunAnswer, run_count, run_lost, run_left, pair_refusal, pair_of_records, pair_after, pair_left, pair_call_lost, RunCall, Records, ror_in, any_lost, RorAgrees, Accounted, AllAccounted}
 use Rattle.device_record.specs.Demand3.{devices_of, SoundRecords, LostRecords}
-use Rattle.device_record.specs.declared.calls.RunAnswer.{RunAnswer}
 use Rattle.device_record.specs.declared.run.Stop.{Stop}
 use Rattle.device_record.proofs.RoundTrip.{decode-encode}
 use Rattle.device_record.proofs.Answers.{run_passes, pair_passes, pair_refusal_swap}

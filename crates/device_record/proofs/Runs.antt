@@ -9,29 +9,25 @@ use lib.Dec.{leb}
 use borrow.Author.Tests.{eq-eqb, ne_eqb}
 use lib.ListN.{length, get_or, take, drop, set, length-set, drop_of_length-le}
 use lib.Seq.{drop-cons, take-suc, set_at, length-take-le, take-length, drop-length}
+use Rattle.std.specs.List.{fold}
 use Rattle.frames.specs.Lines.{pins_of, byte_of}
 use Rattle.registers.specs.Transfer.{lost_words}
 use Rattle.registers.specs.declared.transfer.Lost.{Lost}
-use Rattle.serial.specs.Cycle.{DeviceModel, device_of, cycle_of, lost_of}
+use Rattle.serial.specs.Cycle.{DeviceModel, cycle_of, lost_of}
 use Rattle.serial.specs.Lost.{highest, noted}
 use Rattle.serial.proofs.Losses.{Noting, noting_begin, noting_turn}
 use Rattle.device_record.specs.Run.{losses_of, after_bytes, outputs, lost_with, inputs_fit, stops_on, count_until, written, served, RunUntil}
 use Rattle.device_record.proofs.Bytes.{and_assoc, and-true}
-use Rattle.serial.specs.declared.Device.{Device}
 use Rattle.serial.specs.declared.lost.Losses.{Losses}
 use Rattle.device_record.specs.declared.run.Stop.TheVariants.{Never}
 
 -- Input bytes ----------------------------------------------------------------------------------------------------------
 
--- `all` says whether every byte before i fits.
-module _ (ins : List ℕ) (all : Bool) (i : ℕ) (k : inputs_fit ins ≡ all && inputs_fit (drop i ins)) where
-  pub fit_turn : i < length ins → inputs_fit ins ≡ (all && leb (get_or ins i 0) 7) && inputs_fit (drop (i + 1) ins)
-  unfolding inputs_fit
-  fit_turn h = k ∙ rw (add-one, drop-cons ins i 0 h) (sym (and_assoc all (leb (get_or ins i 0) 7) (inputs_fit (drop (suc i) ins))))
-
-  pub fit_end : length ins ≤ i → all ≡ inputs_fit ins
-  unfolding inputs_fit
-  fit_end h = sym (k ∙ rw (drop_of_length-le ins {i = i} h) (and-true all))
+-- The fold over the input, from any start.
+pub fits_lem : (fit : Bool) (ins : List ℕ) → fold (λ (all : Bool) (byte : ℕ). all && leb byte 7) fit ins ≡ (fit && inputs_fit ins)
+unfolding inputs_fit
+fits_lem fit [] = sym (and-true fit)
+fits_lem fit (p ∷ ps) = fits_lem (fit && leb p 7) ps ∙ and_assoc fit (leb p 7) (inputs_fit ps)
 
 -- Cycles ---------------------------------------------------------------------------------------------------------------
 
@@ -83,8 +79,8 @@ unfolding written
 written_all d ins outs e = rw (take-length ins, e, drop-length outs, append-nil)
 
 -- Nothing is run where the lengths differ.
-pub run_refused : (stops : DeviceModel → Bool) (d : Device) (ins outs : List ℕ) (l : Losses) → l ≡ losses_of [] → (length ins ≡ length outs → ⊥)
-    → RunUntil stops (device_of d) ins outs (record { count = 0; lost = l; device = d }) outs
+pub run_refused : (stops : DeviceModel → Bool) (d : DeviceModel) (ins outs : List ℕ) (l : Losses) → l ≡ losses_of [] → (length ins ≡ length outs → ⊥)
+    → RunUntil stops d ins outs (record { count = 0; lost = l }) d outs
 unfolding served written count_until after_bytes outputs lost_with
 run_refused stops d ins outs l n h =
     let e = ne_eqb (length ins) (length outs) h in
@@ -121,18 +117,20 @@ module _ (stops : DeviceModel → Bool) (d : DeviceModel) (ins outs now : List �
         output = ap (λ (z : List ℕ). set z i b) r.output ∙ rw (add-one i, drop-cons outs i 0 o, set_at (outputs d (take i ins)) (get_or outs i 0) (drop (suc i) outs) b i z, take-suc ins i 0 h, outputs_snoc, ← r.device, f, e, append_assoc);
       }
 
-  module _ (x : Device) (same : device_of x ≡ s) where
-    run_stop : count_until stops d ins ≡ i → RunUntil stops d ins outs (record { count = i; lost = l; device = x }) now
-    unfolding written
-    run_stop e =
-        let a = served_all ins outs r.long in
-        record { count = rw a (sym e); device = rw (a, e) (same ∙ r.device); lost = rw (a, e) r.lost.tally; output = rw (a, e) r.output }
+  run_stop : count_until stops d ins ≡ i → RunUntil stops d ins outs (record { count = i; lost = l }) s now
+  unfolding written
+  run_stop e =
+      let a = served_all ins outs r.long in
+      record { count = rw a (sym e); device = rw (a, e) r.device; lost = rw (a, e) r.lost.tally; output = rw (a, e) r.output }
 
-    -- the rule holds
-    pub run-held : stops s ≡ true → RunUntil stops d ins outs (record { count = i; lost = l; device = x }) now
-    run-held t = run_stop (r.count ∙ omega (arith, count_none stops s (drop i ins) t))
+  -- the rule holds
+  pub run-held : stops s ≡ true → RunUntil stops d ins outs (record { count = i; lost = l }) s now
+  run-held t = run_stop (r.count ∙ omega (arith, count_none stops s (drop i ins) t))
 
-    -- the input ends
-    pub run_ended : length ins ≤ i → RunUntil stops d ins outs (record { count = i; lost = l; device = x }) now
-    unfolding count_until
-    run_ended h = run_stop (r.count ∙ rw (drop_of_length-le ins {i = i} h) (omega arith))
+  -- the input ends
+  pub run_ended : length ins ≤ i → RunUntil stops d ins outs (record { count = length ins; lost = l }) s now
+  unfolding count_until
+  run_ended h =
+      let w = r.within in
+      let e : i ≡ length ins = omega arith in
+      rw e at (run_stop (r.count ∙ rw (drop_of_length-le ins {i = i} h) (omega arith)))

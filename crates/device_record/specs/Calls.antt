@@ -1,5 +1,5 @@
 -- What each call on records answers, and what it leaves in the caller's bytes. A refused call changes none of them.
-use Rattle.std.specs.Prelude.{ℕ, ◌≡◌, Bool, true, not, ◌||◌, List, [], ◌++◌, map, length, take, eqb}
+use Rattle.std.specs.Prelude.{Result, Ok, Err, ℕ, ◌≡◌, Bool, true, not, ◌||◌, List, [], ◌++◌, map, length, take, eqb}
 use Rattle.registers.specs.Choose.{pick}
 use Rattle.registers.specs.Refusals.{done, first_of, refusal_of}
 use Rattle.registers.specs.declared.access.Answer.{Answer}
@@ -7,11 +7,18 @@ use Rattle.registers.specs.declared.access.Answer.TheVariants.{Refused}
 use Rattle.frames.specs.Lines.{pins_of}
 use Rattle.serial.specs.Cycle.{DeviceModel, reset_device, completed_in}
 use Rattle.serial.specs.Access.{read_answer_of, read_device, write_refusal_of, write_device}
+use Rattle.serial.specs.Lost.{none_lost}
 use Rattle.serial.specs.Pair.{PairModel, pair_run, pins_read, pair_lost}
 use Rattle.device_record.specs.Record.{record_length, encoded, decode, sound_bytes}
+pub use Rattle.device_record.specs.Refusals.{no_edition}
+use Rattle.device_record.specs.Refusals.{number}
 use Rattle.device_record.specs.Run.{Losses, losses_of, after_bytes, outputs, lost_with, stops_on, count_until, written, wrong_length, unsound, run_refusal}
-use Rattle.device_record.specs.declared.calls.RunAnswer.{RunAnswer}
-use Rattle.device_record.specs.declared.calls.PairAnswer.{PairAnswer}
+use Rattle.device_record.specs.declared.refusals.Refusal.{Refusal}
+use Rattle.device_record.specs.declared.refusals.Refusal.TheVariants.{NoEdition}
+use Rattle.device_record.specs.declared.calls.Edition.{Edition}
+use Rattle.device_record.specs.declared.calls.Edition.TheVariants.{First, Second}
+use Rattle.device_record.specs.declared.calls.PairLosses.{PairLosses}
+use Rattle.device_record.specs.declared.run.Ran.{Ran}
 use Rattle.device_record.specs.declared.run.Stop.{Stop}
 use Rattle.device_record.specs.declared.run.Stop.TheVariants.{Never}
 
@@ -29,9 +36,12 @@ first_edition = 1
 abbrev pub second_edition : ℕ
 second_edition = 2
 
--- no such edition
-abbrev pub no_edition : ℕ
-no_edition = 20
+-- The edition that a reset names.
+abbrev pub edition_of : ℕ → Result Edition Refusal
+edition_of edition =
+    pick (eqb edition first_edition) (Ok First)
+    (pick (eqb edition second_edition) (Ok Second)
+    (Err NoEdition))
 
 -- A reset is refused only with 10, then with 20, whatever the bytes held.
 unfoldable pub reset_refusal : List ℕ → ℕ → ℕ
@@ -101,6 +111,16 @@ run_output stop bytes ins outs = pick (eqb (run_refusal bytes ins outs) done) (w
 unfoldable pub run_lost : Stop → List ℕ → List ℕ → List ℕ → List ℕ
 run_lost stop bytes ins outs = pick (eqb (run_refusal bytes ins outs) done) (lost_with (decode bytes) (take (run_count stop bytes ins outs) ins)) []
 
+-- What a run answers: its refusal number, the cycles run, and what was lost in them; no cycle and nothing if it is refused.
+pub record RunAnswer : Type 0 where
+  pub refusal : ℕ
+  pub count : ℕ
+  pub lost : Losses
+
+abbrev pub run_answer : Result Ran Refusal → RunAnswer
+run_answer (Ok r) = record { refusal = done; count = r.count; lost = r.lost }
+run_answer (Err refusal) = record { refusal = number refusal; count = 0; lost = none_lost }
+
 -- A run with a stopping rule: its refusal number and count, how many words were lost and the last of them, the record and the
 -- output after it.
 pub record RunCall (stop : Stop) (bytes ins outs : List ℕ) (r : RunAnswer) (bytes' outs' : List ℕ) : Type 0 where
@@ -151,6 +171,16 @@ pair_left one two n =
 -- The words that the first record's device loses in these cycles; none if the pair run is refused.
 unfoldable pub pair_call_lost : List ℕ → List ℕ → ℕ → List ℕ
 pair_call_lost one two n = pick (eqb (pair_refusal one two) done) (pair_lost n (pair_of_records one two)) []
+
+-- What a pair run answers: its refusal number, and what each device lost; nothing if it is refused.
+pub record PairAnswer : Type 0 where
+  pub refusal : ℕ
+  pub first : Losses
+  pub second : Losses
+
+abbrev pub pair_answer : Result PairLosses Refusal → PairAnswer
+pair_answer (Ok lost) = record { refusal = done; first = lost.first; second = lost.second }
+pair_answer (Err refusal) = record { refusal = number refusal; first = none_lost; second = none_lost }
 
 -- A pair run: its refusal number, how many words each device lost and the last of them, and both records after it. The second
 -- device's losses are those of the first with the records swapped.

@@ -1,3 +1,4 @@
+pub mod Refusals
 pub mod Record
 pub mod Run
 pub mod Calls

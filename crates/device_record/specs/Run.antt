@@ -3,11 +3,12 @@ use Rattle.std.specs.Prelude.{ℕ, ◌+◌, ◌≡◌, Bool, true, false, not, �
 use Rattle.registers.specs.Choose.{pick}
 use Rattle.registers.specs.Refusals.{done}
 use Rattle.frames.specs.Lines.{pins_of, byte_of}
-use Rattle.serial.specs.Cycle.{DeviceModel, device_of, cycle_of, after, recording, lost_in}
+use Rattle.serial.specs.Cycle.{DeviceModel, cycle_of, after, recording, lost_in}
 pub use Rattle.serial.specs.Lost.{losses_of}
 pub use Rattle.serial.specs.declared.lost.Losses.{Losses}
 use Rattle.serial.specs.Busy.{busy_device}
 use Rattle.device_record.specs.Record.{record_length, sound_bytes}
+pub use Rattle.device_record.specs.Refusals.{unsound, wrong_length, lines_differ, bad_input}
 use Rattle.device_record.specs.declared.run.Stop.{Stop}
 use Rattle.device_record.specs.declared.run.Stop.TheVariants.{Never, NotBusy}
 use Rattle.device_record.specs.declared.run.Ran.{Ran}
@@ -49,29 +50,13 @@ unfoldable pub served : List ℕ → List ℕ → List ℕ
 served ins outs = pick (eqb (length ins) (length outs)) ins []
 
 -- A run with a stopping rule: its count, the device after it, the losses and the output.
-pub record RunUntil (stops : DeviceModel → Bool) (d : DeviceModel) (ins outs : List ℕ) (r : Ran) (outs' : List ℕ) : Type 0 where
+pub record RunUntil (stops : DeviceModel → Bool) (d : DeviceModel) (ins outs : List ℕ) (r : Ran) (d' : DeviceModel) (outs' : List ℕ) : Type 0 where
   pub count : r.count ≡ count_until stops d (served ins outs)
-  pub device : device_of r.device ≡ after_bytes d (take (count_until stops d (served ins outs)) ins)
+  pub device : d' ≡ after_bytes d (take (count_until stops d (served ins outs)) ins)
   pub lost : r.lost ≡ losses_of (lost_with d (take (count_until stops d (served ins outs)) ins))
   pub output : outs' ≡ written d (count_until stops d (served ins outs)) ins outs
 
 -- Refusals -------------------------------------------------------------------------------------------------------------
-
--- the record is not 128 bytes long
-abbrev pub wrong_length : ℕ
-wrong_length = 10
-
--- input and output line buffers differ in length
-abbrev pub lines_differ : ℕ
-lines_differ = 11
-
--- an input line byte is above 7
-abbrev pub bad_input : ℕ
-bad_input = 12
-
--- the record is unsound
-abbrev pub unsound : ℕ
-unsound = 9
 
 -- The refusal number of a run or of a run to idle, 0 if it is done. All input bytes are checked, even those that a run to idle
 -- would not reach.

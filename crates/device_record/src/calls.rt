@@ -1,203 +1,152 @@
 // The calls on records: what each answers, and what it leaves in the caller's bytes.
-ghost use Rattle.std.specs.Prelude.{◌≡◌};
-ghost use Rattle.registers.specs.Refusals.{refusal_of};
+ghost use Rattle.std.specs.Prelude.{◌≡◌, ◌≢◌, length, MatchResult};
+ghost use Rattle.serial.specs.Cycle.{device_of};
+ghost use Rattle.serial.specs.Pair.{pair_of};
+ghost use Rattle.device_record.specs.Record.{record_length, decode};
 ghost use Rattle.device_record.specs.Run.{run_refusal};
-ghost use Rattle.device_record.specs.Calls.{reset_refusal, record_refusal, pair_refusal, ResetCall, ReadCall, WriteCall, RunCall, PairCall};
+ghost use Rattle.device_record.specs.Refusals.{refusal_number, answer_of, Checks};
+ghost use Rattle.device_record.specs.Calls.{edition_of, record_refusal, pair_refusal, pair_of_records, run_answer, pair_answer, ResetCall, ReadCall, WriteCall, RunCall, PairCall};
 
 use crate::record::RECORD_LENGTH;
-use crate::run::Stop;
+use crate::refusals::Refusal;
+use crate::run::{Ran, Stop};
 use registers::access::Answer;
+use serial::Device;
 use serial::lost::Losses;
 use serial::pair::Wired;
 
-// Refusal numbers, in the order in which they are checked; an access's own numbers come after them.
-pub const DONE: u8 = 0;
-
-const WRONG_LENGTH: u8 = 10;
-
-const LINES_DIFFER: u8 = 11;
-
-const BAD_INPUT: u8 = 12;
-
-const UNSOUND: u8 = 9;
-
-const NO_EDITION: u8 = 20;
-
-// The editions, as a reset names them.
-pub const FIRST_EDITION: u32 = 1;
-
-const SECOND_EDITION: u32 = 2;
-
-// What a run answers.
-#[derive(Clone, Copy)]
-pub struct RunAnswer {
-    pub refusal: u8,
-    // cycles run, 0 if refused
-    pub count: usize,
-    // what was lost in them, zeros if refused
-    pub lost: Losses,
+// The editions of the device.
+#[derive(Clone, Copy, Debug, PartialEq, Eq)]
+pub enum Edition {
+    First = 1,
+    Second = 2,
 }
 
-// What a pair run answers.
+impl TryFrom<u32> for Edition {
+    type Error = Refusal;
+
+    ghost try_from_gives = { λ number edition. edition ≡ edition_of number };
+
+    fn try_from(number: u32) -> Result<Edition, Refusal> {
+        match number {
+            1 => Ok(Edition::First),
+            2 => Ok(Edition::Second),
+            _ => Err(Refusal::NoEdition),
+        }
+    }
+}
+
+// What each device of a pair run lost.
 #[derive(Clone, Copy)]
-pub struct PairAnswer {
-    pub refusal: u8,
-    // what each device lost, zeros if refused
+pub struct PairLosses {
     pub first: Losses,
     pub second: Losses,
 }
 
-fn reset_refusal(bytes: &[u8], edition: u32) -> u8
-    ensures { result ≡ reset_refusal bytes.now edition }
+fn check_length(bytes: &[u8]) -> Result<(), Refusal>
+    ensures { MatchResult result (λ _. length bytes.now ≡ record_length) (λ e. (e ≡ Refusal.WrongLength) × (length bytes.now ≢ record_length)) }
 {
-    if bytes.len() != RECORD_LENGTH {
-        return WRONG_LENGTH;
-    }
-    let known = (edition == FIRST_EDITION) | (edition == SECOND_EDITION);
-    if known { DONE } else { NO_EDITION }
-}
-
-fn record_refusal(bytes: &[u8]) -> u8
-    ensures { result ≡ record_refusal bytes.now }
-{
-    if bytes.len() != RECORD_LENGTH {
-        return WRONG_LENGTH;
-    }
-    if crate::record::sound_bytes(bytes) {
-        DONE
+    if bytes.len() == RECORD_LENGTH {
+        Ok(())
     } else {
-        UNSOUND
+        Err(Refusal::WrongLength)
     }
 }
 
-fn run_refusal(bytes: &[u8], input: &[u8], output: &[u8]) -> u8
-    ensures { result ≡ run_refusal bytes.now input.now output.now }
+// The device of a sound record.
+fn device_in(bytes: &[u8]) -> Result<Device, Refusal>
+    ensures { Checks (record_refusal bytes.now) (λ d. device_of d ≡ decode bytes.now) result }
 {
-    if bytes.len() != RECORD_LENGTH {
-        return WRONG_LENGTH;
-    }
+    check_length(bytes)?;
+    crate::record::decode_sound(bytes).ok_or(Refusal::Unsound)
+}
+
+// The device that a run begins with.
+fn device_to_run(bytes: &[u8], input: &[u8], output: &[u8]) -> Result<Device, Refusal>
+    ensures { Checks (run_refusal bytes.now input.now output.now) (λ d. device_of d ≡ decode bytes.now) result }
+{
+    check_length(bytes)?;
     if input.len() != output.len() {
-        return LINES_DIFFER;
+        return Err(Refusal::LinesDiffer);
     }
-    if crate::run::inputs_fit(input) {
-        record_refusal(bytes)
-    } else {
-        BAD_INPUT
+    if !crate::run::inputs_fit(input) {
+        return Err(Refusal::BadInput);
     }
+    device_in(bytes)
 }
 
-fn pair_refusal(first: &[u8], second: &[u8]) -> u8
-    ensures { result ≡ pair_refusal first.now second.now }
+// The devices of two sound records.
+fn pair_in(first: &[u8], second: &[u8]) -> Result<Wired, Refusal>
+    ensures { Checks (pair_refusal first.now second.now) (λ p. pair_of p ≡ pair_of_records first.now second.now) result }
 {
-    if (first.len() != RECORD_LENGTH) | (second.len() != RECORD_LENGTH) {
-        return WRONG_LENGTH;
-    }
-    let one = crate::record::sound_bytes(first);
-    let two = crate::record::sound_bytes(second);
-    if !one | !two { UNSOUND } else { DONE }
-}
-
-// An answer's refusal number.
-pub fn refusal_of(answer: Answer) -> u8
-    ensures { result ≡ refusal_of answer }
-{
-    match answer {
-        Answer::Word(_) => DONE,
-        Answer::Refused(number) => number,
-    }
+    check_length(first)?;
+    check_length(second)?;
+    Ok(Wired {
+        first: device_in(first)?,
+        second: device_in(second)?,
+    })
 }
 
 // Makes the record a device after reset, of the given edition, whatever it held.
-pub fn reset_call(bytes: &mut [u8], edition: u32) -> u8
-    ensures { ResetCall bytes.old edition result bytes.new }
+pub fn reset_call(bytes: &mut [u8], edition: u32) -> Result<(), Refusal>
+    ensures { ResetCall bytes.old edition (refusal_number result) bytes.new }
 {
-    let refusal = reset_refusal(bytes, edition);
-    if refusal == DONE {
-        let second = edition == SECOND_EDITION;
-        crate::record::encode(serial::reset_device(second), bytes);
-    }
-    refusal
+    check_length(bytes)?;
+    let second = Edition::try_from(edition)? == Edition::Second;
+    crate::record::encode(serial::reset_device(second), bytes);
+    Ok(())
 }
 
 // Reads a register.
-pub fn read_call(bytes: &mut [u8], offset: u32) -> Answer
-    ensures { ReadCall bytes.old offset result bytes.new }
+pub fn read_call(bytes: &mut [u8], offset: u32) -> Result<u16, Refusal>
+    ensures { ReadCall bytes.old offset (answer_of result) bytes.new }
 {
-    let refusal = record_refusal(bytes);
-    if refusal != DONE {
-        return Answer::Refused(refusal);
+    let reading = serial::access::read(device_in(bytes)?, offset);
+    match reading.answer {
+        Answer::Word(word) => {
+            crate::record::encode(reading.device, bytes);
+            Ok(word)
+        }
+        Answer::Refused(number) => Err(Refusal::Access(number)),
     }
-    let reading = serial::access::read(crate::record::decode(bytes), offset);
-    let answer = reading.answer;
-    let Answer::Word(_) = answer else {
-        return answer;
-    };
-    crate::record::encode(reading.device, bytes);
-    answer
 }
 
 // Writes a register.
-pub fn write_call(bytes: &mut [u8], offset: u32, value: u32) -> u8
-    ensures { WriteCall bytes.old offset value result bytes.new }
+pub fn write_call(bytes: &mut [u8], offset: u32, value: u32) -> Result<(), Refusal>
+    ensures { WriteCall bytes.old offset value (refusal_number result) bytes.new }
 {
-    let refusal = record_refusal(bytes);
-    if refusal != DONE {
-        return refusal;
+    let written = serial::access::write(device_in(bytes)?, offset, value);
+    if written.refusal != 0 {
+        return Err(Refusal::Access(written.refusal));
     }
-    let written = serial::access::write(crate::record::decode(bytes), offset, value);
-    if written.refusal == DONE {
-        crate::record::encode(written.device, bytes);
-    }
-    written.refusal
+    crate::record::encode(written.device, bytes);
+    Ok(())
 }
 
 // Runs cycles until the stopping rule holds, and counts them and the words lost in them.
-pub fn run_call(stop: Stop, bytes: &mut [u8], input: &[u8], output: &mut [u8]) -> RunAnswer
-    ensures { RunCall stop bytes.old input.now output.old result bytes.new output.new }
+pub fn run_call(
+    stop: Stop,
+    bytes: &mut [u8],
+    input: &[u8],
+    output: &mut [u8],
+) -> Result<Ran, Refusal>
+    ensures { RunCall stop bytes.old input.now output.old (run_answer result) bytes.new output.new }
 {
-    let refusal = run_refusal(bytes, input, output);
-    if refusal == DONE {
-        let ran = crate::run::run_until(stop, crate::record::decode(bytes), input, output);
-        crate::record::encode(ran.device, bytes);
-        let lost = ran.lost;
-        return RunAnswer {
-            refusal: DONE,
-            count: ran.count,
-            lost,
-        };
-    }
-    RunAnswer {
-        refusal,
-        count: 0,
-        lost: serial::lost::none_lost(),
-    }
+    let mut device = device_to_run(bytes, input, output)?;
+    let ran = crate::run::run_until(stop, &mut device, input, output);
+    crate::record::encode(device, bytes);
+    Ok(ran)
 }
 
 // Runs two wired devices for a number of cycles, and counts the words that each lost in them.
-pub fn pair_call(first: &mut [u8], second: &mut [u8], cycles: u64) -> PairAnswer
-    ensures { PairCall first.old second.old cycles result first.new second.new }
+pub fn pair_call(first: &mut [u8], second: &mut [u8], cycles: u64) -> Result<PairLosses, Refusal>
+    ensures { PairCall first.old second.old cycles (pair_answer result) first.new second.new }
 {
-    let refusal = pair_refusal(first, second);
-    if refusal == DONE {
-        let start = Wired {
-            first: crate::record::decode(first),
-            second: crate::record::decode(second),
-        };
-        let end = serial::pair::pair_run(start, cycles);
-        let pair = end.pair;
-        crate::record::encode(pair.first, first);
-        crate::record::encode(pair.second, second);
-        let first_lost = end.first;
-        let second_lost = end.second;
-        return PairAnswer {
-            refusal: DONE,
-            first: first_lost,
-            second: second_lost,
-        };
-    }
-    PairAnswer {
-        refusal,
-        first: serial::lost::none_lost(),
-        second: serial::lost::none_lost(),
-    }
+    let end = serial::pair::pair_run(pair_in(first, second)?, cycles);
+    crate::record::encode(end.pair.first, first);
+    crate::record::encode(end.pair.second, second);
+    Ok(PairLosses {
+        first: end.first,
+        second: end.second,
+    })
 }

@@ -2,6 +2,8 @@
 // Every public function takes any value of its parameters; contracts cite the definitions of specs/ by the same names.
 #![tactic(auto)]
 
+// What a call is refused with.
+pub mod refusals;
 // A device as 128 bytes.
 pub mod record;
 // Runs over line bytes.

@@ -1,7 +1,7 @@
 // The device record: a device as 128 bytes, and bytes as a device.
-ghost use Rattle.std.specs.Prelude.{◌≡◌, ◌+◌, ◌*◌, ◌≤◌, ◌<◌, length, get_or};
+ghost use Rattle.std.specs.Prelude.{◌≡◌, ◌+◌, ◌*◌, ◌≤◌, length, get_or, is_some, IfSome};
 ghost use Rattle.serial.specs.Cycle.{device_of};
-ghost use Rattle.device_record.specs.Record.{record_length, byte_at, WordOf, word_at, long_at, flag_at, words_at, lines_from, fields_at, engine_at, history_at, decode, pin_byte, state_bytes, word_bytes, PutAt, encode, eq_list, sound_bytes};
+ghost use Rattle.device_record.specs.Record.{record_length, byte_at, WordOf, word_at, long_at, flag_at, words_at, lines_from, fields_at, engine_at, history_at, decode, pin_byte, state_bytes, word_bytes, PutAt, encode, sound_bytes};
 
 use frames::engine::{Engine, Shift};
 use frames::lines::{Lines, Pins};
@@ -9,6 +9,7 @@ use registers::fields::Fields;
 use registers::time::{Cycles, Slots};
 use registers::{Control, Masks, Timeout};
 use serial::{Device, History};
+use std::array;
 
 // How many bytes a record has.
 pub const RECORD_LENGTH: usize = 128;
@@ -17,30 +18,34 @@ pub const RECORD_LENGTH: usize = 128;
 fn byte_at(bytes: &[u8], i: usize) -> u8
     ensures { result ≡ byte_at bytes.now i }
 {
-    if i < bytes.len() { bytes[i] } else { 0 }
+    bytes.get(i).copied().unwrap_or(0)
 }
 
 // A word of two bytes, the low one first.
 fn word_of(lo: u8, hi: u8) -> u16
     ensures { WordOf lo hi result }
 {
-    lo as u16 + 256 * (hi as u16)
+    u16::from_le_bytes([lo, hi])
 }
 
-fn word_at(bytes: &[u8], i: usize) -> u16
-    requires { i < 128 }
-    ensures { result ≡ word_at bytes.now i }
+// A place is a u8 here, so that those after it are places too.
+fn word_at(bytes: &[u8], place: u8) -> u16
+    ensures { result ≡ word_at bytes.now place }
 {
+    let i = usize::from(place);
     word_of(byte_at(bytes, i), byte_at(bytes, i + 1))
 }
 
-fn long_at(bytes: &[u8], i: usize) -> u32
-    requires { i < 126 }
-    ensures { result ≡ long_at bytes.now i }
+fn long_at(bytes: &[u8], place: u8) -> u32
+    ensures { result ≡ long_at bytes.now place }
 {
-    let lo = word_at(bytes, i);
-    let hi = word_at(bytes, i + 2);
-    lo as u32 + 0x10000 * (hi as u32)
+    let i = usize::from(place);
+    u32::from_le_bytes([
+        byte_at(bytes, i),
+        byte_at(bytes, i + 1),
+        byte_at(bytes, i + 2),
+        byte_at(bytes, i + 3),
+    ])
 }
 
 fn flag_at(bytes: &[u8], i: usize) -> bool
@@ -49,18 +54,14 @@ fn flag_at(bytes: &[u8], i: usize) -> bool
     byte_at(bytes, i) == 1
 }
 
-// Eight words from byte i on.
-fn words_at(bytes: &[u8], i: usize) -> [u16; 8]
-    requires { i < 114 }
-    ensures { result ≡ words_at bytes.now i }
+// Eight words from a byte on.
+fn words_at(bytes: &[u8], place: u8) -> [u16; 8]
+    ensures { result ≡ words_at bytes.now place }
 {
-    let mut words = [0u16; 8];
-    let mut k: usize = 0;
-    while k < 8 {
-        words[k] = word_at(bytes, i + 2 * k);
-        k += 1;
-    }
-    words
+    array::from_fn(|k| {
+        let i = usize::from(place) + 2 * k;
+        word_of(byte_at(bytes, i), byte_at(bytes, i + 1))
+    })
 }
 
 // A line byte: CLK 1, FSS 2, TXD 4, nSSPOE 8.
@@ -190,12 +191,10 @@ fn put_words(bytes: &mut [u8], at: usize, words: &[u16])
     requires { at + 2 * length words.now ≤ length bytes.old }
     ensures { PutAt bytes.old at (word_bytes words.now) bytes.new }
 {
-    let mut i: usize = 0;
-    while i < words.len() {
-        let word = words[i];
-        bytes[at + 2 * i] = (word % 256) as u8;
-        bytes[at + 2 * i + 1] = (word / 256 % 256) as u8;
-        i += 1;
+    for (i, word) in words.iter().enumerate() {
+        let [low, high] = word.to_le_bytes();
+        bytes[at + 2 * i] = low;
+        bytes[at + 2 * i + 1] = high;
     }
 }
 
@@ -214,31 +213,22 @@ pub fn encode(d: Device, bytes: &mut [u8])
     }
 }
 
-// Whether two lists of bytes are the same.
-fn eq_list(a: &[u8], b: &[u8]) -> bool
-    ensures { result ≡ eq_list a.now b.now }
+// The device of sound bytes.
+pub(crate) fn decode_sound(bytes: &[u8]) -> Option<Device>
+    ensures sound { is_some result ≡ sound_bytes bytes.now }
+    ensures device { IfSome result (λ d. device_of d ≡ decode bytes.now) }
 {
-    if a.len() != b.len() {
-        return false;
-    }
-    // no early exit, so that the loop can take many bytes at once
-    let mut all = true;
-    let mut i: usize = 0;
-    while i < a.len() {
-        all = all & (a[i] == b[i]);
-        i += 1;
-    }
-    all
+    let d = decode(bytes);
+    let mut again = [0u8; RECORD_LENGTH];
+    encode(d, &mut again);
+    let kept = again.as_slice() == bytes;
+    let good = serial::sound::sound_device(d);
+    if kept & good { Some(d) } else { None }
 }
 
 // Whether bytes are a sound record.
 pub fn sound_bytes(bytes: &[u8]) -> bool
     ensures { result ≡ sound_bytes bytes.now }
 {
-    let d = decode(bytes);
-    let mut again = [0u8; RECORD_LENGTH];
-    encode(d, &mut again);
-    let kept = eq_list(&again, bytes);
-    let good = serial::sound::sound_device(d);
-    kept & good
+    decode_sound(bytes).is_some()
 }

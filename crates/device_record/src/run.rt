@@ -16,8 +16,8 @@ const BUSY: u32 = 4;
 // An input byte is at most this.
 const HIGHEST_INPUT: u8 = 7;
 
-// When a run stops before its input ends.
-#[derive(Clone, Copy)]
+// When a run stops before its input ends. Not a closure: RunCall and the theorems about runs name these two rules.
+#[derive(Clone, Copy, Debug, PartialEq, Eq)]
 pub enum Stop {
     // never
     Never,
@@ -25,12 +25,11 @@ pub enum Stop {
     NotBusy,
 }
 
-// The result of a run: the cycles run, what was lost in them, and the device after them.
+// What a run answers: the cycles run, and what was lost in them.
 #[derive(Clone, Copy)]
 pub struct Ran {
     pub count: usize,
     pub lost: Losses,
-    pub device: Device,
 }
 
 // Whether every input byte is at most 7.
@@ -38,13 +37,9 @@ pub fn inputs_fit(input: &[u8]) -> bool
     ensures { result ≡ inputs_fit input.now }
 {
     // no early exit, so that the loop can take many bytes at once
-    let mut all = true;
-    let mut at: usize = 0;
-    while at < input.len() {
-        all = all & (input[at] <= HIGHEST_INPUT);
-        at += 1;
-    }
-    all
+    input
+        .iter()
+        .fold(true, |fit, byte| fit & (*byte <= HIGHEST_INPUT))
 }
 
 // BSY, as a read of SR gives it.
@@ -69,40 +64,26 @@ fn stops_on(stop: Stop, d: Device) -> bool
 }
 
 // Runs cycles until the rule holds or the input ends; output bytes after them stay. If the lengths differ, nothing is run.
-pub fn run_until(stop: Stop, d: Device, input: &[u8], output: &mut [u8]) -> Ran
-    ensures { RunUntil (stops_on stop) (device_of d) input.now output.old result output.new }
+pub fn run_until(stop: Stop, device: &mut Device, input: &[u8], output: &mut [u8]) -> Ran
+    ensures { RunUntil (stops_on stop) (device_of device.old) input.now output.old result (device_of device.new) output.new }
 {
-    let mut now = serial::cycle::not_run(d);
     let mut lost = serial::lost::none_lost();
-    let mut i: usize = 0;
     if input.len() != output.len() {
-        return Ran {
-            count: 0,
-            lost,
-            device: d,
-        };
+        return Ran { count: 0, lost };
     }
-    while i < input.len() {
-        let done = stops_on(stop, now.device);
-        if done {
-            let device = now.device;
-            return Ran {
-                count: i,
-                lost,
-                device,
-            };
+    let mut now = serial::cycle::not_run(*device);
+    for (i, pins) in input.iter().enumerate() {
+        if stops_on(stop, now.device) {
+            *device = now.device;
+            return Ran { count: i, lost };
         }
-        let pins = frames::lines::pins_of(input[i]);
-        now = serial::cycle::cycle_of(now.device, pins);
-        let lost_now = now.lost;
-        lost = serial::lost::noted(lost, lost_now);
+        now = serial::cycle::cycle_of(now.device, frames::lines::pins_of(*pins));
+        lost = serial::lost::noted(lost, now.lost);
         output[i] = frames::lines::byte_of(now.device.lines);
-        i += 1;
     }
-    let device = now.device;
+    *device = now.device;
     Ran {
-        count: i,
+        count: input.len(),
         lost,
-        device,
     }
 }

@@ -1,69 +1,14 @@
--- Each way out of a C call whose result is not just the answer of the crate below.
+-- The part of two recordings that pl022_difference hands back.
 use Prim.Native.Nat.{ℕ, ◌-◌, ◌≤◌, ◌<◌}
-use mathlib.Core.Path.{◌≡◌, refl, sym, ap, ◌∙◌, subst}
+use mathlib.Core.Path.{◌≡◌, sym, ap, ◌∙◌, subst}
 use mathlib.Core.Bool.{Bool}
 use mathlib.Core.List.{List}
 use lib.ListN.{length}
 use Rattle.registers.specs.Choose.{pick}
-use Rattle.registers.specs.Refusals.{refusal_of, word_of}
-use Rattle.registers.specs.declared.access.Answer.{Answer}
-use Rattle.registers.specs.declared.access.Answer.TheVariants.{Word, Refused}
-use Rattle.device_record.specs.Run.{Losses, losses_of}
-use Rattle.device_record.specs.Calls.{run_lost, pair_call_lost, ReadCall, RunCall, PairCall}
-use Rattle.device_record.specs.declared.calls.RunAnswer.{RunAnswer}
-use Rattle.device_record.specs.declared.calls.PairAnswer.{PairAnswer}
-use Rattle.device_record.specs.declared.run.Stop.{Stop}
 use Rattle.judge.specs.Shared.{difference}
-use Rattle.judge.specs.Judge.{Judged, verdict_numbers}
-use Rattle.judge.specs.declared.judge.Verdict.{Verdict}
 use Rattle.judge.proofs.Sharing.{start_second, start_first, part_second, part_first, is_second, is_first}
-use Rattle.pl022.specs.Results.{ReadResult, lost_numbers, RunResult, ran_numbers, PairResult, WriteTextResult, ReadTextResult, JudgeResult, DifferenceResult}
-use Rattle.pl022.specs.declared.LostResult.{LostResult}
-use Rattle.pl022.specs.declared.RanResult.{RanResult}
+use Rattle.pl022.specs.Results.{DifferenceResult}
 
-module _ (b : List ℕ) (o : ℕ) (a : Answer) (b' : List ℕ) (g : ReadCall b o a b') where
-  pub read_word_lem : (w : ℕ) → a ≡ Word w → ReadResult b o (record { refusal = 0; word = w }) b'
-  read_word_lem w q =
-      let e = sym (sym g.answer ∙ q) in
-      record { refusal = ap refusal_of e; word = ap word_of e; left = g.left }
-
-  pub read_refused : (k n : ℕ) → a ≡ Refused k → n ≡ refusal_of a → ReadResult b o (record { refusal = n; word = 0 }) b'
-  read_refused k n q e = record { refusal = e ∙ ap refusal_of g.answer; word = ap word_of (sym q ∙ g.answer); left = g.left }
-
--- What was lost, as the numbers that C gets.
-lost_numbers_lem : (l : Losses) (ws : List ℕ) → l ≡ losses_of ws → ◌≡◌ {A = LostResult} (record { count = l.count; last = l.last }) (lost_numbers ws)
-lost_numbers_lem l ws e = ap (λ (x : Losses). record { count = x.count; last = x.last }) e
-
--- A run, with either stop.
-pub run_numbers : (stop : Stop) (b i o : List ℕ) (a : RunAnswer) (r : RanResult) (b' o' : List ℕ) → RunCall stop b i o a b' o' → r ≡ ran_numbers a → RunResult stop b i o r b' o'
-run_numbers stop b i o a r b' o' g e =
-    rw e
-    (record {
-      refusal = g.refusal;
-      count = g.count;
-      lost = lost_numbers_lem a.lost (run_lost stop b i o) g.lost;
-      left = g.left;
-      output = g.output;
-    })
-
-pub pair_numbers : (one two : List ℕ) (n : ℕ) (a : PairAnswer) (one' two' : List ℕ) → PairCall one two n a one' two'
-    → PairResult one two n (record { refusal = a.refusal; first = record { count = a.first.count; last = a.first.last }; second = record { count = a.second.count; last = a.second.last } }) one' two'
-pair_numbers one two n a one' two' g =
-    record {
-      refusal = g.refusal;
-      first_lost = lost_numbers_lem a.first (pair_call_lost one two n) g.first_lost;
-      second_lost = lost_numbers_lem a.second (pair_call_lost two one n) g.second_lost;
-      first_left = g.first_left;
-      second_left = g.second_left;
-    }
-
--- Each case of a verdict.
-pub verdict_numbers_lem : (cr0 cpsr : ℕ) (r ws : List ℕ) (v : Verdict) (ws' : List ℕ) → Judged cr0 cpsr r ws v ws' → (u : Verdict) → v ≡ u
-    → JudgeResult cr0 cpsr r ws (record { refusal = (verdict_numbers u).refusal; count = (verdict_numbers u).count }) ws'
-verdict_numbers_lem cr0 cpsr r ws v ws' k u e =
-    record { verdict = u; judged = subst (λ (x : Verdict). Judged cr0 cpsr r ws x ws') e k; refusal = refl; count = refl }
-
--- The part of two recordings that was handed back.
 module _ (xs ys part : List ℕ) (e : part ≡ difference xs ys) where
   pub second_room : length xs < length ys → length part ≤ length ys
   second_room l = subst (λ (p : List ℕ). length p ≤ length ys) (sym e) (part_second xs ys l)

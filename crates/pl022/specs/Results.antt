@@ -3,9 +3,8 @@ use Rattle.std.specs.Prelude.{ℕ, ◌≡◌, List, length}
 use Rattle.registers.specs.Choose.{pick}
 use Rattle.registers.specs.Refusals.{refusal_of, word_of}
 use Rattle.device_record.specs.Run.{losses_of, run_refusal}
-use Rattle.device_record.specs.Calls.{read_call, read_left, run_count, run_lost, run_left, run_output, pair_refusal, pair_call_lost, pair_left}
+use Rattle.device_record.specs.Calls.{read_call, read_left, RunAnswer, run_count, run_lost, run_left, run_output, pair_refusal, pair_call_lost, pair_left}
 use Rattle.device_record.specs.declared.run.Stop.{Stop}
-use Rattle.device_record.specs.declared.calls.RunAnswer.{RunAnswer}
 use Rattle.text.specs.Write.{written_numbers, write_answer, write_left}
 use Rattle.text.specs.Read.{cycles_in, starts_in, read_refusal, reading_numbers, read_answer, read_into}
 use Rattle.judge.specs.Shared.{shared, second_longer, difference}

@@ -2,15 +2,16 @@
 // No rule of the device, of texts or of the judge is in this crate.
 #![tactic(auto)]
 
-ghost use Rattle.std.specs.Prelude.{◌≡◌};
-ghost use Rattle.device_record.specs.Calls.{first_edition, ResetCall, WriteCall};
+ghost use Rattle.std.specs.Prelude.{◌≡◌, MatchResult};
+ghost use Rattle.device_record.specs.Calls.{first_edition, run_answer, ResetCall, WriteCall};
 ghost use Rattle.device_record.specs.declared.run.Stop.TheVariants.{Never, NotBusy};
 ghost use Rattle.pl022.specs.Results.{ReadResult, ran_numbers, RunResult, PairResult, WriteTextResult, ReadTextResult, JudgeResult, DifferenceResult};
 
-use device_record::calls::RunAnswer;
-use device_record::run::Stop;
+use device_record::calls::Edition;
+use device_record::refusals::Refusal;
+use device_record::run::{Ran, Stop};
 use judge::judge::Verdict;
-use registers::access::Answer;
+use serial::lost::Losses;
 
 // What a read answers.
 #[repr(C)]
@@ -23,11 +24,22 @@ pub struct WordResult {
 
 // Words lost to overrun.
 #[repr(C)]
-#[derive(Clone, Copy)]
+#[derive(Clone, Copy, Default)]
 pub struct LostResult {
     pub count: u64,
     // the last of them, 0 if none
     pub last: u64,
+}
+
+impl From<Losses> for LostResult {
+    ghost from_gives = { λ l r. (r.count ≡ l.count) × (r.last ≡ l.last) };
+
+    fn from(lost: Losses) -> LostResult {
+        LostResult {
+            count: lost.count,
+            last: lost.last,
+        }
+    }
 }
 
 // What a run answers.
@@ -80,12 +92,22 @@ pub struct PartResult {
     pub length: u64,
 }
 
+// The refusal number of an answer, 0 if it is done.
+fn number<T: Copy, E: Copy + Into<u8>>(answer: Result<T, E>) -> u8
+    ensures { MatchResult answer (λ _. result ≡ 0) (λ e. E.converts e result) }
+{
+    match answer {
+        Ok(_) => 0,
+        Err(refusal) => refusal.into(),
+    }
+}
+
 // Makes the record a device after reset, of edition 1, whatever it held.
 #[unsafe(no_mangle)]
 pub extern "C" fn pl022_reset(bytes: &mut [u8]) -> u32
     ensures { ResetCall bytes.old first_edition result bytes.new }
 {
-    device_record::calls::reset_call(bytes, device_record::calls::FIRST_EDITION) as u32
+    number(device_record::calls::reset_call(bytes, Edition::First as u32)) as u32
 }
 
 // The same for edition 1 or 2; any other edition is refused.
@@ -93,7 +115,7 @@ pub extern "C" fn pl022_reset(bytes: &mut [u8]) -> u32
 pub extern "C" fn pl022_reset_edition(bytes: &mut [u8], edition: u32) -> u32
     ensures { ResetCall bytes.old edition result bytes.new }
 {
-    device_record::calls::reset_call(bytes, edition) as u32
+    number(device_record::calls::reset_call(bytes, edition)) as u32
 }
 
 // Reads a register.
@@ -102,16 +124,9 @@ pub extern "C" fn pl022_read(bytes: &mut [u8], offset: u32) -> WordResult
     ensures { ReadResult bytes.old offset result bytes.new }
 {
     let answer = device_record::calls::read_call(bytes, offset);
-    let Answer::Word(word) = answer else {
-        let refusal = device_record::calls::refusal_of(answer);
-        return WordResult {
-            refusal: refusal as u32,
-            word: 0,
-        };
-    };
     WordResult {
-        refusal: 0,
-        word: word as u32,
+        refusal: number(answer) as u32,
+        word: answer.unwrap_or(0) as u32,
     }
 }
 
@@ -120,19 +135,23 @@ pub extern "C" fn pl022_read(bytes: &mut [u8], offset: u32) -> WordResult
 pub extern "C" fn pl022_write(bytes: &mut [u8], offset: u32, value: u32) -> u32
     ensures { WriteCall bytes.old offset value result bytes.new }
 {
-    device_record::calls::write_call(bytes, offset, value) as u32
+    number(device_record::calls::write_call(bytes, offset, value)) as u32
 }
 
 // A run's answer as numbers.
-fn ran_numbers(end: RunAnswer) -> RanResult
-    ensures { result ≡ ran_numbers end }
+fn ran_numbers(answer: Result<Ran, Refusal>) -> RanResult
+    ensures { result ≡ ran_numbers (run_answer answer) }
 {
-    RanResult {
-        refusal: end.refusal as u64,
-        count: end.count as u64,
-        lost: LostResult {
-            count: end.lost.count,
-            last: end.lost.last,
+    match answer {
+        Ok(ran) => RanResult {
+            refusal: 0,
+            count: ran.count as u64,
+            lost: LostResult::from(ran.lost),
+        },
+        Err(refusal) => RanResult {
+            refusal: u8::from(refusal) as u64,
+            count: 0,
+            lost: LostResult::default(),
         },
     }
 }
@@ -158,16 +177,17 @@ pub extern "C" fn pl022_run_to_idle(bytes: &mut [u8], input: &[u8], output: &mut
 pub extern "C" fn pl022_pair_run(first: &mut [u8], second: &mut [u8], cycles: u64) -> PairRanResult
     ensures { PairResult first.old second.old cycles result first.new second.new }
 {
-    let end = device_record::calls::pair_call(first, second, cycles);
-    PairRanResult {
-        refusal: end.refusal as u64,
-        first: LostResult {
-            count: end.first.count,
-            last: end.first.last,
+    let answer = device_record::calls::pair_call(first, second, cycles);
+    match answer {
+        Ok(lost) => PairRanResult {
+            refusal: 0,
+            first: LostResult::from(lost.first),
+            second: LostResult::from(lost.second),
         },
-        second: LostResult {
-            count: end.second.count,
-            last: end.second.last,
+        Err(refusal) => PairRanResult {
+            refusal: u8::from(refusal) as u64,
+            first: LostResult::default(),
+            second: LostResult::default(),
         },
     }
 }

@@ -1,11 +1,11 @@
-use Rattle.device_record.proofs.Answers.{read_done_lem, read_refused, read_unserved}
+use Rattle.device_record.proofs.Answers.{handed_on, read_unserved, read_done_lem, read_refused}
 use Rattle.device_record.proofs.calls.read_call.Goals as goal
 
-pub returns-then-refusal-ne-DONE : goal.returns-then-refusal-ne-DONE
-returns-then-refusal-ne-DONE c = read_unserved _ _ _ c.record_refusal-refusal.ensures c.if-refusal-ne-DONE.true
+pub returns-in_err-device_in : goal.returns-in_err-device_in
+returns-in_err-device_in c = rw (handed_on _ _ c.from_residual.ensures.1) (read_unserved _ _ _ c.in_err-device_in.ensures)
 
-pub returns-in_default : goal.returns-in_default
-returns-in_default c = read_refused _ _ _ c.record_refusal-refusal.ensures _ _ c.decode.ensures c.read-reading.ensures c.if-refusal-ne-DONE.false _ c.in_default.is
+pub returns-in-Word : goal.returns-in-Word
+returns-in-Word c = read_done_lem _ _ c.in_ok-device_in.ensures.0 _ _ c.in_ok-device_in.ensures.1 c.read-reading.ensures _ _ c.in-Word.is c.encode.ensures
 
-pub returns : goal.returns
-returns c = read_done_lem _ _ _ c.record_refusal-refusal.ensures _ _ c.decode.ensures c.read-reading.ensures c.if-refusal-ne-DONE.false _ _ c.in-Word.is c.encode.ensures
+pub returns-in-Refused : goal.returns-in-Refused
+returns-in-Refused c = read_refused _ _ c.in_ok-device_in.ensures.0 _ _ c.in_ok-device_in.ensures.1 c.read-reading.ensures _ c.in-Refused.is

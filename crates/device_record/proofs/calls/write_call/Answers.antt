@@ -1,11 +1,11 @@
-use Rattle.device_record.proofs.Answers.{write_done_lem, write_refused, write_unserved}
+use Rattle.device_record.proofs.Answers.{handed_on, write_unserved, write_done_lem, write_refused}
 use Rattle.device_record.proofs.calls.write_call.Goals as goal
 
-pub returns-then-refusal-ne-DONE : goal.returns-then-refusal-ne-DONE
-returns-then-refusal-ne-DONE c = write_unserved _ _ _ _ c.record_refusal-refusal.ensures c.if-refusal-ne-DONE.true
+pub returns-in_err-device_in : goal.returns-in_err-device_in
+returns-in_err-device_in c = rw (handed_on _ _ c.from_residual.ensures.1) (write_unserved _ _ _ _ c.in_err-device_in.ensures)
 
-pub returns-then-written-eq-DONE : goal.returns-then-written-eq-DONE
-returns-then-written-eq-DONE c = write_done_lem _ _ _ _ c.record_refusal-refusal.ensures _ _ c.decode.ensures c.write-written.ensures c.if-refusal-ne-DONE.false _ c.if-written-eq-DONE.true c.encode.ensures
+pub returns-then-written-ne0 : goal.returns-then-written-ne0
+returns-then-written-ne0 c = write_refused _ _ _ c.in_ok-device_in.ensures.0 _ _ c.in_ok-device_in.ensures.1 c.write-written.ensures c.if-written-ne0.true
 
-pub returns-else-written-eq-DONE : goal.returns-else-written-eq-DONE
-returns-else-written-eq-DONE c = write_refused _ _ _ _ c.record_refusal-refusal.ensures _ _ c.decode.ensures c.write-written.ensures c.if-refusal-ne-DONE.false c.if-written-eq-DONE.false
+pub returns : goal.returns
+returns c = write_done_lem _ _ _ c.in_ok-device_in.ensures.0 _ _ c.in_ok-device_in.ensures.1 c.write-written.ensures _ c.if-written-ne0.false c.encode.ensures

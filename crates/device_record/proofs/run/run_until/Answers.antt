@@ -1,4 +1,4 @@
-use mathlib.Core.Path.{refl, sym, ap, ◌∙◌}
+use mathlib.Core.Path.{sym, ap, ◌∙◌}
 use native.Mathlib.Omega.{arith}
 use Rattle.serial.specs.Cycle.{device_of, cycle_of, lost_of}
 use Rattle.device_record.proofs.Runs.{run_refused, run_begin, run_turn, run-held, run_ended}
@@ -10,17 +10,17 @@ returns-then-input-output c = run_refused _ _ _ _ _ c.none_lost-lost.ensures c.i
 pub loop-i-init : goal.loop-i-init
 loop-i-init c = run_begin _ _ _ _ _ c.none_lost-lost.ensures c.if-input-output.false
 
-pub returns-then-done : goal.returns-then-done
-returns-then-done c = rw c.not_run-now.ensures at (run-held _ _ _ _ _ _ _ _ c.loop-i.invariant _ refl (sym c.stops_on-done.ensures ∙ c.if-done.true))
+pub returns-then-stops_on : goal.returns-then-stops_on
+returns-then-stops_on c = rw c.not_run-now.ensures at (run-held _ _ _ _ _ _ _ _ c.loop-i.invariant (sym c.if-stops_on.ensures))
 
 pub loop-i-preserved : goal.loop-i-preserved
 unfolding device_of
 loop-i-preserved c =
     let h = c.loop-i-test.true in
     let g = c.well_formed in
-    let pins = c.pins_of-pins.ensures in
+    let pins = c.pins_of.ensures in
     let r = c.cycle_of-now.ensures in
-    run_turn _ _ _ _ _ _ _ _ c.loop-i.invariant _ _ c.cycle_of-now.result.lost _ h (omega arith) (sym c.stops_on-done.ensures ∙ c.if-done.false) (r.device ∙ ap (cycle_of _) pins) c.byte_of.ensures (r.lost ∙ ap (lost_of _) pins) c.noted-lost.ensures
+    run_turn _ _ _ _ _ _ _ _ c.loop-i.invariant _ _ c.cycle_of-now.result.lost _ h (omega arith) (sym c.if-stops_on.ensures) (r.device ∙ ap (cycle_of _) pins) c.byte_of.ensures (r.lost ∙ ap (lost_of _) pins) c.noted-lost.ensures
 
 pub returns : goal.returns
-returns c = rw c.not_run-now.ensures at (run_ended _ _ _ _ _ _ _ _ c.loop-i.invariant _ refl c.loop-i-test.false)
+returns c = rw c.not_run-now.ensures at (run_ended _ _ _ _ _ _ _ _ c.loop-i.invariant c.loop-i-test.false)

@@ -1,5 +1,3 @@
-use Prim.Native.Nat.{◌-◌}
-use lib.ListN.{length}
 use Rattle.serial.specs.Cycle.{device_of}
 use Rattle.device_record.specs.Run.{stops_on}
 use Rattle.device_record.proofs.Runs.{Running}
@@ -7,6 +5,3 @@ use Rattle.device_record.proofs.run.run_until.Given as goal
 
 abbrev pub invariant-loop-i : goal.invariant-loop-i
 invariant-loop-i l = Running (stops_on l.stop) (device_of l.initial.now.device) l.input l.initial.output l.output (device_of l.now.device) l.lost l.i
-
-abbrev pub decreases-loop-i : goal.decreases-loop-i
-decreases-loop-i l = length l.input - l.i
