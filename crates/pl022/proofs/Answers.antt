@@ -18,8 +18,7 @@ use Rattle.text.specs.Read.{ReadingNumbers, reading_numbers, ReadText}
 use Rattle.text.specs.declared.write.Written.{Written}
 use Rattle.text.specs.declared.read.Reading.{Reading}
 use Rattle.judge.specs.Shared.{difference}
-use Rattle.judge.specs.Judge.{Judged, verdict_numbers}
-use Rattle.judge.specs.declared.judge.Verdict.{Verdict}
+use Rattle.judge.specs.Judge.{Verdict, Judged, verdict_numbers}
 use Rattle.judge.proofs.Sharing.{start_second, start_first, part_second, part_first, is_second, is_first}
 use Rattle.pl022.specs.Results.{ReadResult, lost_numbers, RunResult, ran_numbers, PairResult, WriteTextResult, ReadTextResult, JudgeResult, DifferenceResult}
 use Rattle.pl022.specs.declared.LostResult.{LostResult}
