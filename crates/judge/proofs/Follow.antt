@@ -10,12 +10,12 @@ use lib.ListN.{length, take, drop, replicate, length-append, length-replicate, l
 use lib.Seq.{length-take-le, take-add, take_at, take-length, drop-length}
 use borrow.Author.Tests.{eqb-true, eqb-false}
 use Rattle.judge.specs.Shared.{shared}
-use Rattle.judge.specs.Place.{word_start, over, step_of}
+use Rattle.judge.specs.Place.{word_start, over}
 use Rattle.judge.specs.declared.place.Table.{Table}
 use Rattle.judge.specs.declared.place.Place.{Place}
 use Rattle.judge.proofs.Rests.{Good}
 use Rattle.judge.proofs.Sharing.{shared_most, shared_self, shared_apart, shared_none, shared-append, shared_full, shared_part}
-use Rattle.judge.proofs.Way.{Fine, Could, done_after, Way, way, start_fine, false_true}
+use Rattle.judge.proofs.Way.{next_of, Fine, Could, done_after, Way, way, start_fine, false_true}
 use Rattle.judge.proofs.Ends.{Somehow, somehow, over_could, could_over}
 
 -- Each slot for h cycles ------------------------------------------------------------------------------------------------------
@@ -140,7 +140,7 @@ module _ (t : Table) (g : Good t) (h : ℕ) (z : 0 < h) where
 
   module _ (r : List ℕ) (n x : ℕ) (p : Place) (done : List ℕ) (f : Follows t h r n p done) (e : Next r n x) where
     abbrev after : Place
-    after = (step_of t p x).place
+    after = (next_of t p x).place
 
     abbrev done_then : List ℕ
     done_then = done_after p after done
@@ -177,7 +177,7 @@ module _ (t : Table) (g : Good t) (h : ℕ) (z : 0 < h) where
         go (inl q) = then (same_or s us q.lines q.could q.bytes)
         go (inr m) = inr m
 
-    pub follows_on : (step_of t p x).fits ≡ true → run_of r n x ≡ h → Follows t h r (n + h) after done_then
+    pub follows_on : (next_of t p x).fits ≡ true → run_of r n x ≡ h → Follows t h r (n + h) after done_then
     follows_on b q = record {
       within = run_within r n x f.within q;
       fine = way_on.fine x b;
@@ -192,10 +192,10 @@ module _ (t : Table) (g : Good t) (h : ℕ) (z : 0 < h) where
     -- The recording goes no further: x does not fit ---------------------------------------------------------------------------------
 
     -- x is not what a list shows next
-    never : (step_of t p x).fits ≡ false → (s us : List ℕ) → Same s us → ⊥
+    never : (next_of t p x).fits ≡ false → (s us : List ℕ) → Same s us → ⊥
     never b s us k = false_true (sym b ∙ (way_on.on done x k.lines us k.could).fits)
 
-    pub stops_at : (step_of t p x).fits ≡ false → Stops t h r n
+    pub stops_at : (next_of t p x).fits ≡ false → Stops t h r n
     stops_at b = record {
       reached = some (somehow t g p f.fine done);
       most = λ s us k. (go s us (same_or_missed s us k)).early;
@@ -232,7 +232,7 @@ module _ (t : Table) (g : Good t) (h : ℕ) (z : 0 < h) where
         let q' = length-append (replicate h x) (spread h k.lines) in
         omega (arith, ap length k.bytes, q, q', length-replicate h x, length-take-le n r f.within)
 
-    pub stops_within : (step_of t p x).fits ≡ true → run_of r n x < h → Stops t h r (n + run_of r n x)
+    pub stops_within : (next_of t p x).fits ≡ true → run_of r n x < h → Stops t h r (n + run_of r n x)
     stops_within b l = record {
       reached = some (somehow t g after (way_on.fine x b) done_then);
       most = λ s us k. most s us (same_or_missed s us k);

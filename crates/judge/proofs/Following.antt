@@ -1,30 +1,30 @@
 -- The loop that follows a recording: its places, the words found so far, and what it tells at each way out.
-use Prim.Native.Nat.{ℕ, suc, ◌+◌, ◌-◌, ◌≤◌, ◌<◌}
-use mathlib.Core.Path.{◌≡◌, refl, sym, ap, ◌∙◌, subst}
+use Prim.Native.Nat.{ℕ, suc, min, ◌+◌, ◌-◌, ◌≤◌, ◌<◌}
+use mathlib.Core.Path.{◌≡◌, refl, sym, ap, ◌∙◌, ap₂, subst}
 use mathlib.Core.Bool.{Bool, true, false}
 use mathlib.Core.Logic.{◌⊎◌, inl, inr}
 use mathlib.Core.List.{List, [], ◌∷◌, ◌++◌, append_assoc}
 use native.Mathlib.Omega.{arith}
 use native.Mathlib.Numerals.{add-one}
 use lib.Dec.{ltb, eqb}
-use lib.ListN.{length, take, drop, set, get_or, replicate, length-append, length-drop, length-set, length-replicate}
-use lib.Seq.{drop-cons, take_all, set-set, set_at}
+use Rattle.std.specs.Prelude.{Option, Some, None}
+use lib.ListN.{length, drop, set, get_or, get_or-append, replicate, length-append, length-drop, length-set, length-replicate}
+use lib.Seq.{drop-cons, drop-append_seam, set-set, set_at}
+use Rattle.std.proofs.lemmas.List.{drop-drop}
 use borrow.Author.Tests.{lt-ltb, le-ltb}
 use Rattle.registers.specs.Choose.{pick}
 use Rattle.registers.specs.declared.settings.Settings.{Settings}
 use Rattle.judge.specs.Shared.{shared}
-use Rattle.judge.specs.Judge.{in_eight}
+use Rattle.judge.specs.Judge.{Words, Leading, in_eight}
 use Rattle.judge.specs.Follow.{Followed}
 use Rattle.judge.specs.Place.{place_by, table_of, word_start, goes_on, entered_on, entered, level_of, after_bits, passed_on, passed, over, step_of}
-use Rattle.judge.specs.declared.judge.Verdict.TheVariants.{Words, Leading}
 use Rattle.judge.specs.declared.place.Table.{Table}
 use Rattle.judge.specs.declared.place.Stage.{Stage}
 use Rattle.judge.specs.declared.place.Stage.TheVariants.{Lead, First, Second, Wait, Turn, Close}
 use Rattle.judge.specs.declared.place.Place.{Place}
-use Rattle.judge.specs.declared.place.Next.{Next}
 use Rattle.judge.proofs.Rests.{Good}
-use Rattle.judge.proofs.Sharing.{shared_least, shared_most}
-use Rattle.judge.proofs.Way.{done_after}
+use Rattle.judge.proofs.Sharing.{shared_least, shared_most, shared_slot}
+use Rattle.judge.proofs.Way.{Next, next_of, step_made, step_none, done_after}
 use Rattle.judge.proofs.Follow.{Recorded, Stops, Follows, follows_start, follows_on, stops_at, stops_within, ends_over, ends_early}
 use Rattle.judge.proofs.Verdicts.{recorded_given, stops_none}
 
@@ -63,14 +63,14 @@ entered_count t p x = go p.stage
     go Turn = turned (goes_on t p x)
     go Close = inl refl
 
-step_count : (t : Table) (p : Place) (x : ℕ) → ((step_of t p x).place.count ≡ p.count) ⊎ ((step_of t p x).place.count ≡ p.count + 1)
-unfolding step_of
+step_count : (t : Table) (p : Place) (x : ℕ) → ((next_of t p x).place.count ≡ p.count) ⊎ ((next_of t p x).place.count ≡ p.count + 1)
+unfolding next_of
 step_count t p x = go (entered_count t p x)
   where
-    e : (step_of t p x).place.count ≡ (entered t p x).count
+    e : (next_of t p x).place.count ≡ (entered t p x).count
     e = passed_count t (entered t p x) (level_of (entered t p x) x)
 
-    go : ((entered t p x).count ≡ p.count) ⊎ ((entered t p x).count ≡ p.count + 1) → ((step_of t p x).place.count ≡ p.count) ⊎ ((step_of t p x).place.count ≡ p.count + 1)
+    go : ((entered t p x).count ≡ p.count) ⊎ ((entered t p x).count ≡ p.count + 1) → ((next_of t p x).place.count ≡ p.count) ⊎ ((next_of t p x).place.count ≡ p.count + 1)
     go (inl q) = inl (e ∙ q)
     go (inr q) = inr (e ∙ q)
 
@@ -126,7 +126,7 @@ start_none : (t : Table) (k : ℕ) → (word_start t k 0).count ≡ 0
 unfolding word_start
 start_none t k = pick_count (eqb k 0) _ _ 0 refl refl
 
-pub following_begin : (t : Table) (h : ℕ) (r found : List ℕ) (p : Place) → Good t → 0 < h → found ≡ replicate 8 0 → p ≡ word_start t t.leads 0 → Following t h r found p 0
+following_begin : (t : Table) (h : ℕ) (r found : List ℕ) (p : Place) → Good t → 0 < h → found ≡ replicate 8 0 → p ≡ word_start t t.leads 0 → Following t h r found p 0
 following_begin t h r found p g z f e =
     subst (λ (q : Place). Following t h r found q 0) (sym e)
     (record {
@@ -137,53 +137,72 @@ following_begin t h r found p g z f e =
       words = subst (Found (word_start t t.leads 0).count []) (sym f) (subst (λ (n : ℕ). Found n [] (replicate 8 0)) (sym (start_none t t.leads)) found_start);
     })
 
--- the rest of a recording, lent as a part of it
-part_rest : (r : List ℕ) (at : ℕ) → take (length r - at) (drop at r) ≡ drop at r
-part_rest r at = take_all (length r - at) (drop at r) (let e = length-drop at r in omega arith)
+-- the same, with what is left to cut into slots
+pub record Slots (t : Table) (h : ℕ) (r found : List ℕ) (p : Place) (at n : ℕ) (left : List ℕ) : Type 0 where
+  pub size : n ≡ h
+  pub rest : left ≡ drop at r
+  pub following : Following t h r found p at
 
-module _ (t : Table) (h : ℕ) (r found : List ℕ) (p : Place) (at : ℕ) (k : Following t h r found p at) where
-  pub count_small : p.count < 8
-  count_small = k.follows.fine.count
+pub slots_begin : (t : Table) (h : ℕ) (r found : List ℕ) (p : Place) (size : ℕ) (rest : List ℕ) → Good t → 0 < h → found ≡ replicate 8 0 → p ≡ word_start t t.leads 0
+    → size ≡ h → rest ≡ r → Slots t h r found p 0 size rest
+slots_begin t h r found p size rest g z f e a b = record { size = a; rest = b; following = following_begin t h r found p g z f e }
 
-  pub eight_found : length found ≡ 8
-  eight_found = k.words.eight
+module _ (t : Table) (h : ℕ) (r found : List ℕ) (p : Place) (at size : ℕ) (rest : List ℕ) (slots : Slots t h r found p at size rest) where
+  abbrev k : Following t h r found p at
+  k = slots.following
 
-  abbrev X : ℕ
-  X = get_or r at 0
+  -- The next slot, and what comes after it.
+  module _ (size' : ℕ) (slot more : List ℕ) (s : (size' ≡ size) × ((rest ≡ slot ++ more) × (length slot ≡ min size (length rest)) × (0 < length rest))) where
+    abbrev X : ℕ
+    X = get_or slot 0 0
 
-  module _ (l : at < length r) (next : Next) (s : next ≡ step_of t p X) where
+    split : drop at r ≡ slot ++ more
+    split = sym slots.rest ∙ s.1.0
+
+    long : length slot ≡ min h (length (drop at r))
+    long = s.1.1 ∙ ap₂ (λ (n : ℕ) (l : List ℕ). min n (length l)) slots.size slots.rest
+
+    within : at < length r
+    within = let l = ap length slots.rest ∙ length-drop at r in let n = s.1.2 in omega (arith, l, n)
+
+    slot_some : 0 < length slot
+    slot_some = let z = k.positive in let l = length-drop at r in omega (arith, long, l, within)
+
+    x_is : get_or r at 0 ≡ X
+    x_is = ap (λ (q : List ℕ). get_or q 0 0) (sym (drop-cons r at 0 within) ∙ split) ∙ get_or-append slot more 0 0 slot_some
+
     cycle_next : drop at r ≡ X ∷ drop (at + 1) r
-    cycle_next = drop-cons r at 0 l ∙ ap (λ (n : ℕ). X ∷ drop n r) (sym (add-one at))
-
-    fits_as : (b : Bool) → next.fits ≡ b → (step_of t p X).fits ≡ b
-    fits_as b e = sym (ap (λ (n : Next). n.fits) s) ∙ e
+    cycle_next = drop-cons r at 0 within ∙ ap₂ (λ (x j : ℕ). x ∷ drop j r) x_is (sym (add-one at))
 
     -- the byte does not fit
-    pub following_stop : next.fits ≡ false → Stops t h r at
-    following_stop b = stops_at t k.good h k.positive r at X p k.done k.follows cycle_next (fits_as false b)
+    pub following_stop : step_of t p X ≡ None → Stops t h r at
+    following_stop b = stops_at t k.good h k.positive r at X p k.done k.follows cycle_next (step_none t p X b)
 
-    module _ (b : next.fits ≡ true) (run : ℕ) (q : run ≡ shared (replicate h X) (take (length r - at) (drop at r))) where
+    module _ (next : Place) (b : step_of t p X ≡ Some next) (run : ℕ) (q : run ≡ shared (replicate (length slot) X) slot) where
+      fits : (next_of t p X).fits ≡ true
+      fits = (step_made t p X next b).0
+
       run_as : run ≡ shared (replicate h X) (drop at r)
-      run_as = q ∙ ap (shared (replicate h X)) (part_rest r at)
+      run_as = q ∙ shared_slot h X slot more (long ∙ ap (λ (l : List ℕ). min h (length l)) split) ∙ ap (shared (replicate h X)) (sym split)
 
       -- the byte does not last
       pub following_part : run < h → Stops t h r (at + run)
       following_part m =
           subst (λ (n : ℕ). Stops t h r (at + n)) (sym run_as)
-          (stops_within t k.good h k.positive r at X p k.done k.follows cycle_next (fits_as true b) (subst (λ (n : ℕ). n < h) run_as m))
-
-      pub part_room : at + run ≤ length r
-      part_room = let a = shared_most (replicate h X) (drop at r) in let b = length-drop at r in omega (arith, run_as, a, b, l)
+          (stops_within t k.good h k.positive r at X p k.done k.follows cycle_next fits (subst (λ (n : ℕ). n < h) run_as m))
 
       -- a whole slot
       run_whole : h ≤ run → shared (replicate h X) (drop at r) ≡ h
       run_whole m = let a = shared_least (replicate h X) (drop at r) in omega (arith, run_as, a, length-replicate h X)
 
-      follows_then : h ≤ run → Follows t h r (at + h) (step_of t p X).place (done_after p (step_of t p X).place k.done)
-      follows_then m = follows_on t k.good h k.positive r at X p k.done k.follows cycle_next (fits_as true b) (run_whole m)
+      rest_next : h ≤ run → more ≡ drop (at + h) r
+      rest_next m =
+          let a = shared_most (replicate (length slot) X) slot in
+          let l : length slot ≡ h = omega (arith, long, q, a) in
+          sym (drop-append_seam slot more) ∙ ap₂ drop l (sym split) ∙ drop-drop h at r
 
-      pub following_room : h ≤ run → at + h ≤ length r
-      following_room m = (follows_then m).within
+      follows_then : h ≤ run → Follows t h r (at + h) (next_of t p X).place (done_after p (next_of t p X).place k.done)
+      follows_then m = follows_on t k.good h k.positive r at X p k.done k.follows cycle_next fits (run_whole m)
 
       found_then : (c : ℕ) → c < 8 → (c ≡ p.count) ⊎ (c ≡ p.count + 1) → Found c (pick (ltb p.count c) (k.done ++ (p.word ∷ [])) k.done) (set found p.count p.word)
       found_then c m (inl e) =
@@ -195,22 +214,25 @@ module _ (t : Table) (h : ℕ) (r found : List ℕ) (p : Place) (at : ℕ) (k : 
           subst (λ (d : List ℕ). Found c d (set found n p.word)) (ap (λ (b : Bool). pick b (k.done ++ (p.word ∷ [])) k.done) (sym (lt-ltb n c (omega arith))))
           (subst (λ (j : ℕ). Found j (k.done ++ (p.word ∷ [])) (set found n p.word)) (sym e) (found_next n k.done found p.word (omega arith) k.words))
 
-      pub following_turn : h ≤ run → Following t h r (set found p.count p.word) next.place (at + h)
+      following_turn : h ≤ run → Following t h r (set found p.count p.word) next (at + h)
       following_turn m =
           let f = follows_then m in
-          subst (λ (n : Next). Following t h r (set found p.count p.word) n.place (at + h)) (sym s)
+          subst (λ (n : Place). Following t h r (set found p.count p.word) n (at + h)) (step_made t p X next b).1
           (record {
             good = k.good;
             positive = k.positive;
-            done = done_after p (step_of t p X).place k.done;
+            done = done_after p (next_of t p X).place k.done;
             follows = f;
-            words = found_then (step_of t p X).place.count f.fine.count (step_count t p X);
+            words = found_then (next_of t p X).place.count f.fine.count (step_count t p X);
           })
 
+      pub slots_turn : h ≤ run → Slots t h r (set found p.count p.word) next (at + h) size' more
+      slots_turn m = record { size = s.0 ∙ slots.size; rest = rest_next m; following = following_turn m }
+
   -- The end of the recording
-  module _ (l : length r ≤ at) where
+  module _ (l : length rest ≡ 0) where
     at_end : at ≡ length r
-    at_end = let w = k.follows.within in omega arith
+    at_end = let w = k.follows.within in let n = ap length slots.rest ∙ length-drop at r in omega (arith, l, n)
 
     follows_end : Follows t h r (length r) p k.done
     follows_end = subst (λ (n : ℕ). Follows t h r n p k.done) at_end k.follows

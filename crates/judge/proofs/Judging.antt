@@ -14,10 +14,10 @@ use Rattle.registers.specs.declared.settings.Settings.{Settings}
 use Rattle.serial.specs.Cycle.{DeviceModel, device_of}
 use Rattle.serial.specs.Preloaded.{enabled_with}
 use Rattle.serial.specs.declared.Device.{Device}
-use Rattle.judge.specs.Judge.{can_enable, settings, most_cycles, refusal_before, Judged}
+use Rattle.judge.specs.Judge.{can_enable, settings, most_cycles, Words, Refused, rejected, refusal_before, Judged}
 use Rattle.judge.specs.Follow.{Permitted, Followed}
-use Rattle.judge.specs.declared.judge.Verdict.{Verdict}
-use Rattle.judge.specs.declared.judge.Verdict.TheVariants.{Words, Leading, Refused}
+use Rattle.judge.specs.declared.judge.Rejection.{Rejection}
+use Rattle.judge.specs.declared.judge.Rejection.TheVariants.{NotPermitted, NoList, TooLong}
 use Rattle.judge.proofs.Preloaded.{permitted}
 
 module _ (cr0 cpsr : ℕ) (d : Device) (e : device_of d ≡ enabled_with false cr0 cpsr []) where
@@ -45,16 +45,15 @@ module _ (cr0 cpsr : ℕ) (r places : List ℕ) where
   unfolding refusal_before
   judged_long can l = (ap₂ (λ (b a : Bool). pick b (pick a 22 0) 6) can (lt-ltb most_cycles (length r) l), λ e. absurd (omega arith), refl)
 
-  module _ (can : can_enable cr0 cpsr ≡ true) (l : length r ≤ most_cycles) (s : Settings) (e : settings cr0 cpsr ≡ s) (v : Verdict) (found : List ℕ) (k : Followed s r v found) where
+  module _ (can : can_enable cr0 cpsr ≡ true) (l : length r ≤ most_cycles) (s : Settings) (e : settings cr0 cpsr ≡ s) (found : List ℕ) where
     before : refusal_before cr0 cpsr r ≡ 0
     unfolding refusal_before
     before = ap₂ (λ (b a : Bool). pick b (pick a 22 0) 6) can (le-ltb most_cycles (length r) l)
 
-    pub judged_words : (n : ℕ) → v ≡ Words n → Judged cr0 cpsr r places (Words n) found
-    judged_words n q = (before, subst (λ (u : Verdict). Followed s r u found) q k cr0 cpsr can e)
+    pub judged_words : (n : ℕ) → Followed s r (Words n) found → Judged cr0 cpsr r places (Words n) found
+    judged_words n k = (before, k cr0 cpsr can e)
 
-    pub judged_leading : (n : ℕ) → v ≡ Leading n → Judged cr0 cpsr r places (Leading n) places
-    judged_leading n q = (before, subst (λ (u : Verdict). Followed s r u found) q k cr0 cpsr can e, refl)
-
-    pub judged_never : {A : Type 0} (n : ℕ) → v ≡ Refused n → A
-    judged_never n q = absurd (subst (λ (u : Verdict). Followed s r u found) q k cr0 cpsr can e)
+    pub judged_rejected : (q : Rejection) → Followed s r (rejected q) found → Judged cr0 cpsr r places (rejected q) places
+    judged_rejected NotPermitted k = absurd (k cr0 cpsr can e)
+    judged_rejected (NoList n) k = (before, k cr0 cpsr can e, refl)
+    judged_rejected TooLong k = absurd (k cr0 cpsr can e)

@@ -4,8 +4,7 @@ use mathlib.Core.Path.{◌≡◌, sym, ap, ◌∙◌}
 use mathlib.Core.List.{List}
 use native.Mathlib.Omega.{arith}
 use lib.ListN.{length}
-use Rattle.judge.specs.Judge.{refusal_before, in_eight, Given, NotGiven, OneVerdict}
-use Rattle.judge.specs.declared.judge.Verdict.TheVariants.{Words, Leading, Refused}
+use Rattle.judge.specs.Judge.{Words, Leading, Refused, refusal_before, in_eight, Given, NotGiven, OneVerdict}
 use Rattle.judge.proofs.Preloaded.{only_words}
 
 module _ (cr0 cpsr : ℕ) (r : List ℕ) where

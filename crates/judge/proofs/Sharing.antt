@@ -1,7 +1,7 @@
 -- How many leading cycles two recordings share, found cycle by cycle.
-use Prim.Native.Nat.{ℕ, suc, ◌+◌, ◌-◌, ◌≤◌, ◌<◌}
+use Prim.Native.Nat.{ℕ, zero, suc, min, ◌+◌, ◌-◌, ◌≤◌, ◌<◌}
 use mathlib.Core.Path.{◌≡◌, refl, sym, ap, ap₂, ◌∙◌}
-use mathlib.Core.Bool.{Bool, true, false}
+use mathlib.Core.Bool.{Bool, true, false, cond}
 use mathlib.Core.Logic.{◌⊎◌, inl, inr}
 use mathlib.Core.List.{List, [], ◌∷◌, ◌++◌}
 use native.Mathlib.Omega.{arith}
@@ -9,10 +9,11 @@ use native.Mathlib.Numerals.{add-one}
 use lib.Dec.{eqb}
 use lib.ListN.{length, take, drop, get_or, length-drop, replicate, length-replicate, get_or-replicate, drop_of_length-le}
 use lib.Seq.{drop-cons, take_all}
-use borrow.Author.Tests.{eqb-true, eq-eqb, ne_eqb, lt-ltb, le-ltb}
+use borrow.Author.Tests.{eqb-true, eqb-false, eq-eqb, ne_eqb, lt-ltb, le-ltb}
 use Rattle.registers.specs.Choose.{pick}
 use Rattle.judge.specs.Shared.{shared, second_longer, longer, difference}
-use Rattle.judge.specs.Follow.{Smaller}
+use Rattle.std.specs.List.{prefix_len, zip}
+use Rattle.std.proofs.lemmas.List.Folds.{length-prefix_len}
 
 pub shared_least : (xs ys : List ℕ) → shared xs ys ≤ length xs
 unfolding shared
@@ -83,67 +84,46 @@ shared_part (x ∷ xs) zs (y ∷ ys) l = go (eqb x y) l (shared_part xs zs ys)
     go true l f = ap suc (f (omega arith))
     go false l f = refl
 
--- Cycle by cycle ------------------------------------------------------------------------------------------------------------------
+-- As the code counts them ---------------------------------------------------------------------------------------------------------
 
--- the first i cycles are the same
-abbrev pub Sharing : List ℕ → List ℕ → ℕ → Type 0
-Sharing xs ys i = shared xs ys ≡ i + shared (drop i xs) (drop i ys)
+one_more : (b : Bool) {m n : ℕ} → m ≡ n → cond b (1 + m) 0 ≡ pick b (suc n) 0
+one_more true e = omega arith
+one_more false e = refl
 
-pub sharing_begin : (xs ys : List ℕ) → Sharing xs ys 0
-sharing_begin xs ys = omega arith
+-- the pairs of equal cycles that come first
+prefix_zip : (xs ys : List ℕ) → prefix_len (λ p. eqb p.0 p.1) (zip xs ys) ≡ shared xs ys
+unfolding shared
+prefix_zip [] ys = refl
+prefix_zip (x ∷ xs) [] = refl
+prefix_zip (x ∷ xs) (y ∷ ys) = one_more (eqb x y) (prefix_zip xs ys)
 
-module _ (xs ys : List ℕ) (i : ℕ) (k : Sharing xs ys i) (l : i < length xs) (m : i < length ys) where
-  here : shared xs ys ≡ i + shared (get_or xs i 0 ∷ drop (suc i) xs) (get_or ys i 0 ∷ drop (suc i) ys)
-  here = k ∙ ap₂ (λ (p q : List ℕ). i + shared p q) (drop-cons xs i 0 l) (drop-cons ys i 0 m)
+pub shared_zip : (xs ys : List ℕ) → length (take (prefix_len (λ p. eqb p.0 p.1) (zip xs ys)) (zip xs ys)) ≡ shared xs ys
+shared_zip xs ys = length-prefix_len (λ (p : ℕ × ℕ). eqb p.0 p.1) (zip xs ys) ∙ prefix_zip xs ys
 
-  pub sharing_turn : get_or xs i 0 ≡ get_or ys i 0 → Sharing xs ys (i + 1)
-  sharing_turn e =
-      here
-      ∙ ap (λ (y : ℕ). i + shared (get_or xs i 0 ∷ drop (suc i) xs) (y ∷ drop (suc i) ys)) (sym e)
-      ∙ ap (λ (n : ℕ). i + n) (shared_cons (get_or xs i 0) (drop (suc i) xs) (drop (suc i) ys))
-      ∙ (let q : i + suc (shared (drop (suc i) xs) (drop (suc i) ys)) ≡ i + 1 + shared (drop (suc i) xs) (drop (suc i) ys) = omega arith in q)
-      ∙ ap (λ (j : ℕ). i + 1 + shared (drop j xs) (drop j ys)) (sym (add-one i))
-
-  pub sharing_stop : (get_or xs i 0 ≡ get_or ys i 0 → ⊥) → i ≡ shared xs ys
-  sharing_stop n = let q = shared_apart (get_or xs i 0) (get_or ys i 0) (drop (suc i) xs) (drop (suc i) ys) n in omega (arith, here, q)
-
--- one of them is over
-pub sharing_end : (xs ys : List ℕ) (i n : ℕ) → Sharing xs ys i → Smaller (length xs) (length ys) n → n ≤ i → i ≡ shared xs ys
-sharing_end xs ys i n k s l = go s.either
+eqb_turned : (x y : ℕ) → eqb y x ≡ eqb x y
+eqb_turned x y = go (eqb x y) refl
   where
-    go : (n ≡ length xs) ⊎ (n ≡ length ys) → i ≡ shared xs ys
-    go (inl e) =
-        let q = ap (λ (p : List ℕ). shared p (drop i ys)) (drop_of_length-le xs {i = i} (omega arith)) ∙ shared_nil (drop i ys) in
-        omega (arith, k, q)
-    go (inr e) =
-        let q = ap (shared (drop i xs)) (drop_of_length-le ys {i = i} (omega arith)) ∙ shared_none (drop i xs) in
-        omega (arith, k, q)
+    go : (b : Bool) → eqb x y ≡ b → eqb y x ≡ b
+    go true e = eq-eqb y x (sym (eqb-true x y e))
+    go false e = ne_eqb y x (λ k. eqb-false x y e (sym k))
 
--- The same for one cycle, repeated.
-module _ (cycles : List ℕ) (x most end i : ℕ) (k : Sharing (replicate most x) cycles i) (s : Smaller (length cycles) most end) where
-  run_within : i < end → i < length (replicate most x)
-  run_within l = let b = s.second in omega (arith, length-replicate most x)
+-- the cycles equal to one that come first
+prefix_one : (x : ℕ) (ys : List ℕ) → prefix_len (λ y. eqb y x) ys ≡ shared (replicate (length ys) x) ys
+unfolding shared
+prefix_one x [] = refl
+prefix_one x (y ∷ ys) = ap (λ (b : Bool). cond b (1 + prefix_len (λ z. eqb z x) ys) 0) (eqb_turned x y) ∙ one_more (eqb x y) (prefix_one x ys)
 
-  cycles_within : i < end → i < length cycles
-  cycles_within l = let b = s.first in omega arith
+pub shared_one : (x : ℕ) (ys : List ℕ) → length (take (prefix_len (λ y. eqb y x) ys) ys) ≡ shared (replicate (length ys) x) ys
+shared_one x ys = length-prefix_len (λ y. eqb y x) ys ∙ prefix_one x ys
 
-  run-same : i < end → get_or (replicate most x) i 0 ≡ x
-  run-same l = let b = s.second in get_or-replicate most i x 0 (omega arith)
-
-  pub run_turn : i < end → get_or cycles i 0 ≡ x → Sharing (replicate most x) cycles (i + 1)
-  run_turn l e = sharing_turn (replicate most x) cycles i k (run_within l) (cycles_within l) (run-same l ∙ sym e)
-
-  pub run_stop : i < end → (get_or cycles i 0 ≡ x → ⊥) → i ≡ shared (replicate most x) cycles
-  run_stop l n = sharing_stop (replicate most x) cycles i k (run_within l) (cycles_within l) (λ e. n (sym e ∙ run-same l))
-
-  pub run_end : end ≤ i → i ≡ shared (replicate most x) cycles
-  run_end l =
-      let e = length-replicate most x in
-      sharing_end (replicate most x) cycles i end k (record { first = let b = s.second in omega arith; second = s.first; either = turned s.either }) l
-    where
-      turned : (end ≡ length cycles) ⊎ (end ≡ most) → (end ≡ length (replicate most x)) ⊎ (end ≡ length cycles)
-      turned (inl e) = inr e
-      turned (inr e) = inl (e ∙ sym (length-replicate most x))
+-- the cycles of a slot tell those of the rest of the recording
+pub shared_slot : (n x : ℕ) (ys more : List ℕ) → length ys ≡ min n (length (ys ++ more)) → shared (replicate (length ys) x) ys ≡ shared (replicate n x) (ys ++ more)
+unfolding shared
+shared_slot zero x [] more e = refl
+shared_slot (suc n) x [] [] e = refl
+shared_slot (suc n) x [] (y ∷ more) e = absurd (omega arith)
+shared_slot zero x (y ∷ ys) more e = absurd (omega arith)
+shared_slot (suc n) x (y ∷ ys) more e = ap (λ (k : ℕ). pick (eqb x y) (suc k) 0) (shared_slot n x ys more (omega (arith, e)))
 
 -- The part handed back ----------------------------------------------------------------------------------------------------------------
 

@@ -7,6 +7,7 @@ use mathlib.Core.List.{List, [], ◌∷◌, ◌++◌, map, append_assoc}
 use native.Mathlib.Omega.{arith}
 use lib.Dec.{ltb, eqb, eqb-suc-suc}
 use lib.ListN.{length}
+use Rattle.std.specs.Prelude.{Option, Some, None}
 use native.Mathlib.Nat.{sub_self, mod-eq_of_lt, mod-lt, lt_of_lt_of_le}
 use lib.Pow.{pow_mono, pow_pos, pow-add}
 use borrow.Author.Tests.{ltb-true, eqb-true, eq-eqb, ne_eqb, lt-ltb, le-ltb}
@@ -19,7 +20,6 @@ use Rattle.judge.specs.declared.place.Table.{Table}
 use Rattle.judge.specs.declared.place.Stage.{Stage}
 use Rattle.judge.specs.declared.place.Stage.TheVariants.{Lead, First, Second, Wait, Turn, Close}
 use Rattle.judge.specs.declared.place.Place.{Place}
-use Rattle.judge.specs.declared.place.Next.{Next}
 use Rattle.judge.proofs.Rests.{down, some, mark_at, bits_from, last_of, after_word, behind, word_from, Good}
 use Rattle.serial.specs.Preloaded.{Sixteen}
 
@@ -68,6 +68,36 @@ shift_injective x y c d k l e = go c d (sym (shift_small x c k) ∙ e ∙ shift_
     go true false e = absurd (omega arith)
     go false true e = absurd (omega arith)
     go false false e = (omega arith, refl)
+
+-- A step ------------------------------------------------------------------------------------------------------------------
+
+-- whether byte x fits the next slot, and the place after it
+pub record Next : Type 0 where
+  pub fits : Bool
+  pub place : Place
+
+unfoldable pub next_of : Table → Place → ℕ → Next
+next_of t p x =
+    let q = entered t p x in
+    let d = level_of q x in
+    record { fits = not (over t q) && eqb x (byte_at t q d); place = passed t q d }
+
+picked : (b : Bool) (p q : Place) → pick b (Some p) None ≡ Some q → (b ≡ true) × (p ≡ q)
+picked true p q e = (refl, cc)
+picked false p q e = absurd (cc)
+
+none_picked : (b : Bool) (p : Place) → pick b (Some p) None ≡ None → b ≡ false
+none_picked true p e = absurd (cc)
+none_picked false p e = refl
+
+-- a step that is made, or not
+pub step_made : (t : Table) (p : Place) (x : ℕ) (q : Place) → step_of t p x ≡ Some q → ((next_of t p x).fits ≡ true) × ((next_of t p x).place ≡ q)
+unfolding step_of next_of
+step_made t p x q e = picked _ _ q e
+
+pub step_none : (t : Table) (p : Place) (x : ℕ) → step_of t p x ≡ None → (next_of t p x).fits ≡ false
+unfolding step_of next_of
+step_none t p x e = none_picked _ _ e
 
 -- What fits a place ---------------------------------------------------------------------------------------------------------
 
@@ -145,7 +175,7 @@ pub record Could (t : Table) (p : Place) (done ls us : List ℕ) : Type 0 where
 
 -- byte b, then place q, whatever the words
 record Passes (t : Table) (p : Place) (b : ℕ) (q : Place) : Type 0 where
-  steps : (x : ℕ) → step_of t p x ≡ record { fits = eqb x b; place = q }
+  steps : (x : ℕ) → next_of t p x ≡ record { fits = eqb x b; place = q }
   counts : q.count ≡ p.count
   to : (w : ℕ) (ws : List ℕ) → Fits t p w ws → Fits t q w ws
   back : (w : ℕ) (ws : List ℕ) → Fits t q w ws → Fits t p w ws
@@ -153,8 +183,8 @@ record Passes (t : Table) (p : Place) (b : ℕ) (q : Place) : Type 0 where
 
 -- a byte that fits, and what may come after it
 pub record Stepped (t : Table) (p : Place) (done : List ℕ) (x : ℕ) (ls us : List ℕ) : Type 0 where
-  pub fits : (step_of t p x).fits ≡ true
-  pub could : Could t (step_of t p x).place (done_after p (step_of t p x).place done) ls us
+  pub fits : (next_of t p x).fits ≡ true
+  pub could : Could t (next_of t p x).place (done_after p (next_of t p x).place done) ls us
 
 pub head_same : {A : Type 0} {x y : A} {xs ys : List A} → (x ∷ xs) ≡ (y ∷ ys) → x ≡ y
 head_same e = cc
@@ -184,7 +214,7 @@ passes_on t p b q k done x ls us c =
     }
 
 passes_back : (t : Table) (p : Place) (b : ℕ) (q : Place) → Passes t p b q → (done : List ℕ) (x : ℕ) (ls us : List ℕ)
-    → (step_of t p x).fits ≡ true → Could t (step_of t p x).place (done_after p (step_of t p x).place done) ls us → Could t p done (x ∷ ls) us
+    → (next_of t p x).fits ≡ true → Could t (next_of t p x).place (done_after p (next_of t p x).place done) ls us → Could t p done (x ∷ ls) us
 passes_back t p b q k done x ls us f c =
     let g = k.steps x in
     let e : x ≡ b = eqb-true x b (sym (ap (λ (n : Next). n.fits) g) ∙ f) in
@@ -228,7 +258,7 @@ module _ (t : Table) where
   W = t.width
 
   lead_last : (m : Bool) (c : ℕ) → Passes t (place_by Lead 1 0 m c) (lead_byte t 1) (place_by First W 0 false c)
-  unfolding step_of entered level_of byte_at passed over
+  unfolding next_of entered level_of byte_at passed over
   lead_last m c = record {
     steps = λ x. refl;
     counts = refl;
@@ -238,7 +268,7 @@ module _ (t : Table) where
   }
 
   lead_more : (n : ℕ) (m : Bool) (c : ℕ) → Passes t (place_by Lead (suc (suc n)) 0 m c) (lead_byte t (suc (suc n))) (place_by Lead (suc n) 0 false c)
-  unfolding step_of entered level_of byte_at passed over
+  unfolding next_of entered level_of byte_at passed over
   lead_more n m c = record {
     steps = λ x. ap₂ (λ (b : Bool) (k : ℕ). record { fits = eqb x (lead_byte t (suc (suc n))); place = pick b (place_by First W 0 false c) (place_by Lead k 0 false c) }) (not_one n) (less (suc n));
     counts = refl;
@@ -251,7 +281,7 @@ module _ (t : Table) where
 
   -- bits are still to come
   second_more : (n word c : ℕ) → suc (suc n) ≤ W → Passes t (place_by Second (suc (suc n)) word false c) (bit_byte t.second false (bit_at word 0)) (place_by First (suc n) word false c)
-  unfolding step_of entered level_of byte_at passed over
+  unfolding next_of entered level_of byte_at passed over
   second_more n word c l =
       let e : W - suc (suc n) + 1 ≡ W - suc n = omega arith in
       let b = bit_byte t.second false (bit_at word 0) in
@@ -273,7 +303,7 @@ module _ (t : Table) where
   -- the last bit: no slot waits after it
   second_turn : (word : ℕ) (m : Bool) (c : ℕ) → 1 ≤ W → W ≤ 16 → t.waits ≡ 0 → (m ≡ true → t.marks ≡ true)
       → Passes t (place_by Second 1 word m c) (bit_byte t.second m (bit_at word 0)) (place_by Turn 0 word m c)
-  unfolding step_of entered level_of byte_at passed over after_bits
+  unfolding next_of entered level_of byte_at passed over after_bits
   second_turn word m c l l' z h =
       let e : W - 1 + 1 ≡ W = omega arith in
       let b = bit_byte t.second m (bit_at word 0) in
@@ -288,7 +318,7 @@ module _ (t : Table) where
   -- the last bit: slots wait after it
   second_wait : (word k c : ℕ) → 1 ≤ W → W ≤ 16 → t.waits ≡ suc k → t.marks ≡ false
       → Passes t (place_by Second 1 word false c) (bit_byte t.second false (bit_at word 0)) (place_by Wait (suc k) word false c)
-  unfolding step_of entered level_of byte_at passed over after_bits
+  unfolding next_of entered level_of byte_at passed over after_bits
   second_wait word k c l l' z h =
       let e : W - 1 + 1 ≡ W = omega arith in
       let b = bit_byte t.second false (bit_at word 0) in
@@ -304,7 +334,7 @@ module _ (t : Table) where
   -- After the bits ------------------------------------------------------------------------------------------------------------
 
   wait_last : (word : ℕ) (m : Bool) (c : ℕ) → t.marks ≡ false → Passes t (place_by Wait 1 word m c) (wait_byte t (bit_at word 0) 1) (place_by Turn 0 word false c)
-  unfolding step_of entered level_of byte_at passed over
+  unfolding next_of entered level_of byte_at passed over
   wait_last word m c h = record {
     steps = λ x. refl;
     counts = refl;
@@ -314,7 +344,7 @@ module _ (t : Table) where
   }
 
   wait_more : (n word : ℕ) (m : Bool) (c : ℕ) → Passes t (place_by Wait (suc (suc n)) word m c) (wait_byte t (bit_at word 0) (suc (suc n))) (place_by Wait (suc n) word false c)
-  unfolding step_of entered level_of byte_at passed over
+  unfolding next_of entered level_of byte_at passed over
   wait_more n word m c = record {
     steps = λ x. ap₂ (λ (b : Bool) (k : ℕ). record { fits = eqb x (wait_byte t (bit_at word 0) (suc (suc n))); place = pick b (place_by Turn 0 word false c) (place_by Wait k word false c) }) (not_one n) (less (suc n));
     counts = refl;
@@ -324,7 +354,7 @@ module _ (t : Table) where
   }
 
   close_more : (n word : ℕ) (m : Bool) (c : ℕ) → Passes t (place_by Close (suc n) word m c) (end_byte t (bit_at word 0) (suc n)) (place_by Close n word false c)
-  unfolding step_of entered level_of byte_at passed over
+  unfolding next_of entered level_of byte_at passed over
   close_more n word m c = record {
     steps = λ x. ap₂ (λ (b : Bool) (k : ℕ). record { fits = not b && eqb x (end_byte t (bit_at word 0) (suc n)); place = place_by Close k word false c }) (ne_eqb (suc n) 0 (omega arith)) (less n);
     counts = refl;
@@ -375,8 +405,8 @@ module _ (t : Table) (g : Good t) (n word : ℕ) (m : Bool) (c : ℕ) (l : suc n
   abbrev next_by : ℕ → Bool → Bool → Next
   next_by x k d = record { fits = eqb x (bit_byte t.first k d); place = then_by k d }
 
-  first_step : (x : ℕ) → step_of t here x ≡ next_by x (more_by x) (bit_at x 2)
-  unfolding step_of entered level_of byte_at passed over
+  first_step : (x : ℕ) → next_of t here x ≡ next_by x (more_by x) (bit_at x 2)
+  unfolding next_of entered level_of byte_at passed over
   first_step x = refl
 
   -- the byte of a bit tells it, and a mark
@@ -394,7 +424,7 @@ module _ (t : Table) (g : Good t) (n word : ℕ) (m : Bool) (c : ℕ) (l : suc n
       let d = bit_of W w (W - suc n) in
       let mk = mark_at t (some ws) n in
       let e : x ≡ bit_byte t.first mk d = head_same k.shows in
-      let told : step_of t here x ≡ next_by x mk d =
+      let told : next_of t here x ≡ next_by x mk d =
       first_step x ∙ ap₂ (next_by x) (ap more_by e ∙ first_told ws d k.fits.room) (ap (λ (y : ℕ). bit_at y 2) e ∙ bit2 t.first mk d g.first) in
       record {
         fits = ap (λ (a : Next). a.fits) told ∙ eq-eqb x (bit_byte t.first mk d) e;
@@ -416,7 +446,7 @@ module _ (t : Table) (g : Good t) (n word : ℕ) (m : Bool) (c : ℕ) (l : suc n
       }
 
   first_back : word < 2 ^ (t.width - suc n) → (done : List ℕ) (x : ℕ) (ls us : List ℕ)
-      → (step_of t here x).fits ≡ true → Could t (step_of t here x).place (done_after here (step_of t here x).place done) ls us → Could t here done (x ∷ ls) us
+      → (next_of t here x).fits ≡ true → Could t (next_of t here x).place (done_after here (next_of t here x).place done) ls us → Could t here done (x ∷ ls) us
   first_back bound done x ls us f k₀ =
       let W = t.width in
       let i = W - suc n in
@@ -525,7 +555,7 @@ module _ (t : Table) (g : Good t) where
   }
 
   -- A byte that fits a bit's first slot leaves a fine place too.
-  first_fine : (n word : ℕ) (m : Bool) (c x : ℕ) → Fine t (place_by First (suc n) word m c) → Fine t (step_of t (place_by First (suc n) word m c) x).place
+  first_fine : (n word : ℕ) (m : Bool) (c x : ℕ) → Fine t (place_by First (suc n) word m c) → Fine t (next_of t (place_by First (suc n) word m c) x).place
   unfolding room_for
   first_fine n word m c x f =
       let l = f.stage.1 in
@@ -548,8 +578,8 @@ module _ (t : Table) (g : Good t) where
 pub record Way (t : Table) (p : Place) : Type 0 where
   pub on : (done : List ℕ) (x : ℕ) (ls us : List ℕ) → Could t p done (x ∷ ls) us → Stepped t p done x ls us
   pub back : (done : List ℕ) (x : ℕ) (ls us : List ℕ)
-      → (step_of t p x).fits ≡ true → Could t (step_of t p x).place (done_after p (step_of t p x).place done) ls us → Could t p done (x ∷ ls) us
-  pub fine : (x : ℕ) → (step_of t p x).fits ≡ true → Fine t (step_of t p x).place
+      → (next_of t p x).fits ≡ true → Could t (next_of t p x).place (done_after p (next_of t p x).place done) ls us → Could t p done (x ∷ ls) us
+  pub fine : (x : ℕ) → (next_of t p x).fits ≡ true → Fine t (next_of t p x).place
 
 way_passing : (t : Table) (p : Place) → Passing t p → Way t p
 way_passing t p k = record {
@@ -571,8 +601,8 @@ pub nil_cons : {A B : Type 0} {x : A} {xs : List A} → (x ∷ xs) ≡ [] → B
 nil_cons {A} {B} {x} {xs} e = let z : suc (length xs) ≡ 0 = ap length e in absurd (omega arith)
 
 -- nothing comes after the last slot
-over_fits : (t : Table) (word : ℕ) (m : Bool) (c x : ℕ) → (step_of t (place_by Close 0 word m c) x).fits ≡ false
-unfolding step_of entered over
+over_fits : (t : Table) (word : ℕ) (m : Bool) (c x : ℕ) → (next_of t (place_by Close 0 word m c) x).fits ≡ false
+unfolding next_of entered over
 over_fits t word m c x = refl
 
 way_told : (t : Table) → Good t → (stage : Stage) (left word : ℕ) (m : Bool) (c : ℕ) → Told stage → Fine t (place_by stage left word m c) → Way t (place_by stage left word m c)
@@ -629,11 +659,11 @@ module _ (t : Table) (g : Good t) (n : ℕ) where
       subst (λ (b : Bool). Way t (pick b (place_by First t.width 0 false n) (place_by Lead (suc k) 0 false n))) (sym (ne_eqb (suc k) 0 (omega arith)))
       (way_told t g Lead (suc k) 0 false n tt (record { stage = omega arith; bound = pow_pos 0; count = l; mark = false_true }))
 
-  start_count : (k x : ℕ) → (step_of t (start_of k) x).place.count ≡ n
-  unfolding word_start step_of entered passed level_of
+  start_count : (k x : ℕ) → (next_of t (start_of k) x).place.count ≡ n
+  unfolding word_start next_of entered passed level_of
   start_count zero x = refl
   start_count (suc k) x =
-      ap (λ (b : Bool). (step_of t (pick b (place_by First t.width 0 false n) (place_by Lead (suc k) 0 false n)) x).place.count) (ne_eqb (suc k) 0 (omega arith))
+      ap (λ (b : Bool). (next_of t (pick b (place_by First t.width 0 false n) (place_by Lead (suc k) 0 false n)) x).place.count) (ne_eqb (suc k) 0 (omega arith))
       ∙ go (eqb (suc k) 1)
     where
       go : (b : Bool) → (pick b (place_by First t.width 0 false n) (place_by Lead (suc k - 1) 0 false n)).count ≡ n
@@ -699,18 +729,18 @@ module _ (t : Table) (g : Good t) (n : ℕ) where
 abbrev step_from : Table → Place → ℕ → Next
 step_from t q x = record { fits = not (over t q) && eqb x (byte_at t q (level_of q x)); place = passed t q (level_of q x) }
 
-step_from_lem : (t : Table) (p : Place) (x : ℕ) → step_of t p x ≡ step_from t (entered t p x) x
-unfolding step_of
+step_from_lem : (t : Table) (p : Place) (x : ℕ) → next_of t p x ≡ step_from t (entered t p x) x
+unfolding next_of
 step_from_lem t p x = refl
 
 -- places with the same way on, count and word
-stepped_as : (t : Table) (p q : Place) (done : List ℕ) (x : ℕ) (ls us : List ℕ) → step_of t p x ≡ step_of t q x → p.count ≡ q.count → p.word ≡ q.word
+stepped_as : (t : Table) (p q : Place) (done : List ℕ) (x : ℕ) (ls us : List ℕ) → next_of t p x ≡ next_of t q x → p.count ≡ q.count → p.word ≡ q.word
     → Stepped t q done x ls us → Stepped t p done x ls us
 stepped_as t p q done x ls us e f h k = record {
   fits = ap (λ (a : Next). a.fits) e ∙ k.fits;
   could =
       subst (λ (a : Next). Could t a.place (done_after p a.place done) ls us) (sym e)
-      (subst (λ (y : List ℕ). Could t (step_of t q x).place y ls us) (sym (ap₂ (λ (c v : ℕ). pick (ltb c (step_of t q x).place.count) (done ++ (v ∷ [])) done) f h)) k.could);
+      (subst (λ (y : List ℕ). Could t (next_of t q x).place y ls us) (sym (ap₂ (λ (c v : ℕ). pick (ltb c (next_of t q x).place.count) (done ++ (v ∷ [])) done) f h)) k.could);
 }
 
 module _ (t : Table) (g : Good t) (left word : ℕ) (m : Bool) (c : ℕ) where
@@ -723,11 +753,11 @@ module _ (t : Table) (g : Good t) (left word : ℕ) (m : Bool) (c : ℕ) where
   abbrev start : ℕ → Place
   start k = start_of t g (c + 1) k
 
-  turn_close : (x : ℕ) → goes_on t turn x ≡ false → step_of t turn x ≡ step_of t (close t.closes) x
-  unfolding step_of entered
+  turn_close : (x : ℕ) → goes_on t turn x ≡ false → next_of t turn x ≡ next_of t (close t.closes) x
+  unfolding next_of entered
   turn_close x e = ap (λ (b : Bool). step_from t (pick b (start t.again) (close t.closes)) x) e
 
-  turn_start : (x : ℕ) → goes_on t turn x ≡ true → step_of t turn x ≡ step_of t (start t.again) x
+  turn_start : (x : ℕ) → goes_on t turn x ≡ true → next_of t turn x ≡ next_of t (start t.again) x
   unfolding entered
   turn_start x e =
       step_from_lem t turn x
@@ -781,9 +811,9 @@ module _ (t : Table) (g : Good t) (left word : ℕ) (m : Bool) (c : ℕ) where
       ltb-true (c + 1) 8 (and_both (ltb (c + 1) 8) (eqb t.closes 0 || not (eqb x (end_byte t (bit_at word 0) t.closes))) (sym (goes_free x y) ∙ e)).0
 
   -- the word is done
-  turned_done : (x : ℕ) (done : List ℕ) → done_after turn (step_of t (start t.again) x).place done ≡ done_after (start t.again) (step_of t (start t.again) x).place (done ++ (word ∷ []))
+  turned_done : (x : ℕ) (done : List ℕ) → done_after turn (next_of t (start t.again) x).place done ≡ done_after (start t.again) (next_of t (start t.again) x).place (done ++ (word ∷ []))
   turned_done x done =
-      let q = (step_of t (start t.again) x).place in
+      let q = (next_of t (start t.again) x).place in
       let e = start_count t g (c + 1) t.again x in
       ap (λ (b : Bool). pick b (done ++ (word ∷ [])) done) (lt-ltb c q.count (omega (arith, e)))
       ∙ sym (done-same (start t.again) q (done ++ (word ∷ [])) (e ∙ sym (start_counts t g (c + 1) t.again)))
@@ -812,11 +842,11 @@ module _ (t : Table) (g : Good t) (left word : ℕ) (m : Bool) (c : ℕ) where
         fits = ap (λ (n : Next). n.fits) s ∙ q.fits;
         could =
             subst (λ (n : Next). Could t n.place (done_after turn n.place done) ls us) (sym s)
-            (subst (λ (y : List ℕ). Could t (step_of t (start t.again) x).place y ls us) (sym (turned_done x done)) q.could);
+            (subst (λ (y : List ℕ). Could t (next_of t (start t.again) x).place y ls us) (sym (turned_done x done)) q.could);
       }
 
   turn_back : Fine t turn → (done : List ℕ) (x : ℕ) (ls us : List ℕ) (b : Bool) → goes_on t turn x ≡ b
-      → (step_of t turn x).fits ≡ true → Could t (step_of t turn x).place (done_after turn (step_of t turn x).place done) ls us → Could t turn done (x ∷ ls) us
+      → (next_of t turn x).fits ≡ true → Could t (next_of t turn x).place (done_after turn (next_of t turn x).place done) ls us → Could t turn done (x ∷ ls) us
   turn_back f done x ls us false e h k₀ =
       let s = turn_close x e in
       let k = (close_way f).back done x ls us (sym (ap (λ (n : Next). n.fits) s) ∙ h) (subst (λ (n : Next). Could t n.place (done_after turn n.place done) ls us) s k₀) in
@@ -839,7 +869,7 @@ module _ (t : Table) (g : Good t) (left word : ℕ) (m : Bool) (c : ℕ) where
       let r = goes_room x f e t.marks refl in
       let s = turn_start x e in
       let k₁ = subst (λ (n : Next). Could t n.place (done_after turn n.place done) ls us) s k₀ in
-      let k₂ = subst (λ (y : List ℕ). Could t (step_of t (start t.again) x).place y ls us) (turned_done x done) k₁ in
+      let k₂ = subst (λ (y : List ℕ). Could t (next_of t (start t.again) x).place y ls us) (turned_done x done) k₁ in
       let k = start_told t g (c + 1) t.again (done ++ (word ∷ [])) (x ∷ ls) us ((start_way t g (c + 1) t.again r).back (done ++ (word ∷ [])) x ls us (sym (ap (λ (n : Next). n.fits) s) ∙ h) k₂) in
       let whole : cut W word ≡ word = mod-eq_of_lt f.bound in
       record {
@@ -856,7 +886,7 @@ module _ (t : Table) (g : Good t) (left word : ℕ) (m : Bool) (c : ℕ) where
         all = k.all ∙ append_assoc done (word ∷ []) (map (cut W) (k.head ∷ k.others)) ∙ ap (λ (y : ℕ). done ++ (y ∷ map (cut W) (k.head ∷ k.others))) (sym whole);
       }
 
-  turn_fine : Fine t turn → (x : ℕ) (b : Bool) → goes_on t turn x ≡ b → (step_of t turn x).fits ≡ true → Fine t (step_of t turn x).place
+  turn_fine : Fine t turn → (x : ℕ) (b : Bool) → goes_on t turn x ≡ b → (next_of t turn x).fits ≡ true → Fine t (next_of t turn x).place
   turn_fine f x false e h =
       let s = turn_close x e in
       subst (λ (n : Next). Fine t n.place) (sym s) ((close_way f).fine x (sym (ap (λ (n : Next). n.fits) s) ∙ h))

@@ -1,16 +1,8 @@
 -- How the judge's code follows a recording: what it needs, and what it tells. What is accepted does not depend on this file.
-use Rattle.std.specs.Prelude.{ℕ, ◌≤◌, ◌<◌, ◌≡◌, ◌⊎◌, true, List, replicate}
+use Rattle.std.specs.Prelude.{ℕ, ◌≤◌, ◌<◌, ◌≡◌, true, List, replicate}
 use Rattle.registers.specs.declared.settings.Format.TheVariants.{Reserved}
 use Rattle.registers.specs.declared.settings.Settings.{Settings}
-use Rattle.judge.specs.Judge.{can_enable, settings, Given, NotGiven}
-use Rattle.judge.specs.declared.judge.Verdict.{Verdict}
-use Rattle.judge.specs.declared.judge.Verdict.TheVariants.{Words, Refused, Leading}
-
--- The smaller of two numbers.
-pub record Smaller (a b n : ℕ) : Type 0 where
-  pub first : n ≤ a
-  pub second : n ≤ b
-  pub either : (n ≡ a) ⊎ (n ≡ b)
+use Rattle.judge.specs.Judge.{can_enable, settings, Verdict, Words, Leading, Refused, Given, NotGiven}
 
 -- What the settings of an enabled master always have.
 pub record Permitted (s : Settings) : Type 0 where

@@ -1,6 +1,6 @@
 -- Which recordings a PL022 master gives: what the words in its transmit queue show, what is accepted, and how many leading
 -- cycles of a recording could come from some words.
-use Rattle.std.specs.Prelude.{ℕ, ◌-◌, ◌≤◌, ◌≡◌, Bool, true, false, List, [], ◌++◌, map, ltb, length, replicate}
+use Rattle.std.specs.Prelude.{ℕ, ◌-◌, ◌≤◌, ◌≡◌, Bool, true, false, List, [], ◌++◌, map, ltb, length, replicate, Result, Ok, Err}
 use Rattle.registers.specs.Choose.{pick}
 use Rattle.registers.specs.Time.{cycles_of}
 use Rattle.registers.specs.Refusals.{not_permitted}
@@ -16,8 +16,8 @@ use Rattle.serial.specs.Drawing.{slot_total, drawing, stretch}
 use Rattle.serial.specs.Demand3.{in_edition, Enabling}
 use Rattle.serial.specs.Preloaded.{Sixteen, enabled_with}
 use Rattle.judge.specs.Shared.{shared}
-use Rattle.judge.specs.declared.judge.Verdict.{Verdict}
-use Rattle.judge.specs.declared.judge.Verdict.TheVariants.{Words, Refused, Leading}
+use Rattle.judge.specs.declared.judge.Rejection.{Rejection}
+use Rattle.judge.specs.declared.judge.Rejection.TheVariants.{NotPermitted, NoList, TooLong}
 
 -- Settings ----------------------------------------------------------------------------------------------------------------
 
@@ -83,6 +83,26 @@ too_long = 22
 -- The longest recording that is judged.
 abbrev pub most_cycles : ℕ
 most_cycles = 65536
+
+-- What the judge says about a recording.
+pub data Verdict : Type 0 where
+  -- accepted: the number of words
+  Words : ℕ → Verdict
+  -- no list of words gives it: the number of leading cycles
+  Leading : ℕ → Verdict
+  -- refused before it is judged: the number of the refusal
+  Refused : ℕ → Verdict
+
+-- The verdict that a rejection is.
+abbrev pub rejected : Rejection → Verdict
+rejected NotPermitted = Refused not_permitted
+rejected (NoList n) = Leading n
+rejected TooLong = Refused too_long
+
+-- The verdict that the code's answer is.
+abbrev pub verdict_of : Result ℕ Rejection → Verdict
+verdict_of (Ok n) = Words n
+verdict_of (Err r) = rejected r
 
 -- A verdict as numbers.
 pub record VerdictNumbers : Type 0 where

@@ -1,6 +1,6 @@
 -- How the judge's code goes through a recording, slot by slot: its place, which byte fits there, the next place.
 -- What is accepted does not depend on this file.
-use Rattle.std.specs.Prelude.{ℕ, ◌+◌, ◌-◌, ◌*◌, ◌%◌, Bool, true, false, not, ◌&&◌, ◌||◌, ltb, eqb}
+use Rattle.std.specs.Prelude.{ℕ, ◌+◌, ◌-◌, ◌*◌, ◌%◌, Bool, true, false, not, ◌&&◌, ◌||◌, ltb, eqb, Option, Some, None}
 use Rattle.registers.specs.Choose.{pick}
 use Rattle.registers.specs.Bits.{bit_at}
 use Rattle.registers.specs.declared.settings.Format.{Format}
@@ -13,7 +13,6 @@ use Rattle.judge.specs.declared.place.Table.{Table}
 use Rattle.judge.specs.declared.place.Stage.{Stage}
 use Rattle.judge.specs.declared.place.Stage.TheVariants.{Lead, First, Second, Wait, Turn, Close}
 use Rattle.judge.specs.declared.place.Place.{Place}
-use Rattle.judge.specs.declared.place.Next.{Next}
 
 -- Tables ------------------------------------------------------------------------------------------------------------------
 
@@ -207,9 +206,9 @@ over_on Close t p = eqb p.left 0
 unfoldable pub over : Table → Place → Bool
 over t p = over_on p.stage t p
 
--- Whether byte x fits the next slot, and the place after it.
-unfoldable pub step_of : Table → Place → ℕ → Next
+-- The place after byte x, if x fits the next slot.
+unfoldable pub step_of : Table → Place → ℕ → Option Place
 step_of t p x =
     let q = entered t p x in
     let d = level_of q x in
-    record { fits = not (over t q) && eqb x (byte_at t q d); place = passed t q d }
+    pick (not (over t q) && eqb x (byte_at t q d)) (Some (passed t q d)) None

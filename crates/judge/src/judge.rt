@@ -2,21 +2,13 @@
 ghost use Rattle.std.specs.Prelude.{◌≡◌, false, []};
 ghost use Rattle.serial.specs.Cycle.{device_of};
 ghost use Rattle.serial.specs.Preloaded.{enabled_with};
-ghost use Rattle.judge.specs.Judge.{Judged};
+ghost use Rattle.judge.specs.Judge.{verdict_of, rejected, verdict_numbers, Judged};
 ghost use Rattle.judge.specs.Follow.{Followable, Followed};
 
-use crate::{place, shared};
+use crate::place::Table;
+use crate::shared;
 use registers::settings::Settings;
 use serial::Device;
-
-// Refused: the settings cannot be enabled as a master. A refused register write has the same number.
-pub const NOT_PERMITTED: u8 = 6;
-
-// No list of words gives the recording.
-pub const NO_LIST: u8 = 21;
-
-// Refused: the recording is too long.
-pub const TOO_LONG: u8 = 22;
 
 // The longest recording that is judged.
 pub const MOST_CYCLES: usize = 65536;
@@ -31,15 +23,43 @@ const CPSR: u32 = 0x10;
 // CR1 of an enabled master: SSE.
 const ENABLED: u32 = 2;
 
-// What the judge says about a recording.
-#[derive(Clone, Copy)]
-pub enum Verdict {
-    // accepted: the number of words
-    Words(usize),
+// Why a recording is not accepted.
+#[derive(Clone, Copy, Debug, PartialEq, Eq)]
+pub enum Rejection {
+    // refused before it is judged: the settings cannot be enabled as a master
+    NotPermitted,
     // no list of words gives it: the number of leading cycles
-    Leading(usize),
-    // refused before it is judged
-    Refused(u8),
+    NoList(usize),
+    // refused before it is judged: it is too long
+    TooLong,
+}
+
+// Its number; a refused register write has the same 6.
+impl From<Rejection> for u8 {
+    ghost use Rattle.std.specs.Prelude.{◌≡◌};
+    ghost use Rattle.judge.specs.Judge.{rejected, verdict_numbers};
+
+    ghost from_gives = { λ r n. n ≡ (verdict_numbers (rejected r)).refusal };
+
+    fn from(rejection: Rejection) -> u8 {
+        match rejection {
+            Rejection::NotPermitted => 6,
+            Rejection::NoList(_) => 21,
+            Rejection::TooLong => 22,
+        }
+    }
+}
+
+impl Rejection {
+    // The number of leading cycles; 0 of a recording that is not judged.
+    pub fn leading(self) -> usize
+        ensures { result ≡ (verdict_numbers (rejected self)).count }
+    {
+        match self {
+            Rejection::NoList(leading) => leading,
+            Rejection::NotPermitted | Rejection::TooLong => 0,
+        }
+    }
 }
 
 // A device after reset, with CR0 and CPSR written, then enabled as a master.
@@ -52,64 +72,57 @@ fn enabled_with(cr0: u32, cpsr: u32) -> Device
     on.device
 }
 
-// Goes through a recording slot by slot, and puts its words into eight places.
-fn follow(s: Settings, recording: &[u8], found: &mut [u16; 8]) -> Verdict
+// Goes through a recording slot by slot, and puts its words into eight places. It answers how many there are.
+fn follow(s: Settings, recording: &[u8], found: &mut [u16; 8]) -> Result<usize, Rejection>
     requires { Followable s found.old }
-    ensures { Followed s recording.now result found.new }
+    ensures { Followed s recording.now (verdict_of result) found.new }
 {
-    let t = place::table_of(s);
+    let t = Table::of(s);
     let h = s.divisor.0 as usize;
-    let mut p = place::word_start(t, t.leads, 0);
-    let mut at: usize = 0;
-    while at < recording.len() {
-        let x = recording[at];
-        let next = place::step(t, p, x);
-        let fits = next.fits;
-        if fits {
-            let run = shared::same_run(&recording[at..], x, h);
-            if run < h {
-                return Verdict::Leading(at + run);
-            }
-            let n = p.count as usize;
-            found[n] = p.word;
-            p = next.place;
-            at += h;
-        } else {
-            return Verdict::Leading(at);
+    let mut p = t.word_start(t.leads, 0);
+    let mut leading = 0;
+    for slot in recording.chunks(h) {
+        let x = slot[0];
+        let Some(next) = t.step(p, x) else {
+            return Err(Rejection::NoList(leading));
+        };
+        let run = shared::same_run(slot, x);
+        if run < h {
+            return Err(Rejection::NoList(leading + run));
         }
-    }
-    let whole = place::over(t, p);
-    if whole {
         let n = p.count as usize;
         found[n] = p.word;
-        return Verdict::Words(n + 1);
+        p = next;
+        leading += h;
     }
-    Verdict::Leading(at)
+    if t.over(p) {
+        let n = p.count as usize;
+        found[n] = p.word;
+        return Ok(n + 1);
+    }
+    Err(Rejection::NoList(leading))
 }
 
 // Judges a recording as that of a PL022 master with these settings. It is accepted if some list of one to eight words gives
-// it; the words then go to the eight places.
-pub fn judge(cr0: u32, cpsr: u32, recording: &[u8], words: &mut [u16; 8]) -> Verdict
-    ensures { Judged cr0 cpsr recording.now words.old result words.new }
+// it; the words then go to the eight places, and the answer is how many there are.
+pub fn judge(
+    cr0: u32,
+    cpsr: u32,
+    recording: &[u8],
+    words: &mut [u16; 8],
+) -> Result<usize, Rejection>
+    ensures { Judged cr0 cpsr recording.now words.old (verdict_of result) words.new }
 {
     let device = enabled_with(cr0, cpsr);
-    let on = registers::settings::enabled(device.registers);
-    if on {
-        if MOST_CYCLES < recording.len() {
-            return Verdict::Refused(TOO_LONG);
-        }
-        let s = registers::settings::settings_of(device.registers);
-        let mut found: [u16; 8] = [0; 8];
-        let verdict = follow(s, recording, &mut found);
-        match verdict {
-            Verdict::Words(n) => {
-                *words = found;
-                Verdict::Words(n)
-            }
-            Verdict::Leading(n) => Verdict::Leading(n),
-            Verdict::Refused(q) => Verdict::Refused(q),
-        }
-    } else {
-        Verdict::Refused(NOT_PERMITTED)
+    if !registers::settings::enabled(device.registers) {
+        return Err(Rejection::NotPermitted);
     }
+    if MOST_CYCLES < recording.len() {
+        return Err(Rejection::TooLong);
+    }
+    let s = registers::settings::settings_of(device.registers);
+    let mut found = [0; 8];
+    let count = follow(s, recording, &mut found)?;
+    *words = found;
+    Ok(count)
 }

@@ -1,10 +1,13 @@
 // Going through a recording, slot by slot: the reader's place, which byte fits there, the next place.
-ghost use Rattle.std.specs.Prelude.{◌≡◌, false, ◌-◌, ◌<◌};
+#![tactic(auto, unfolding(crate::specs::Place::room_for, crate::specs::Place::lead_byte, crate::specs::Place::bit_byte, crate::specs::Place::end_byte, crate::specs::Place::wait_byte, crate::specs::Place::word_start, crate::specs::Place::goes_on, crate::specs::Place::entered, crate::specs::Place::level_of, crate::specs::Place::byte_at, crate::specs::Place::after_bits, crate::specs::Place::passed, crate::specs::Place::over, crate::specs::Place::step_of, crate::specs::Place::motorola_table, crate::specs::Place::ti_table, crate::specs::Place::microwire_table, crate::specs::Place::table_of))]
+
+ghost use Rattle.std.specs.Prelude.{◌≡◌, false, ◌<◌};
 ghost use Rattle.registers.specs.Choose.{pick};
 ghost use Rattle.frames.specs.Lines.{byte_of};
 ghost use Rattle.serial.specs.Drawing.{low, idle};
-ghost use Rattle.judge.specs.Place.{motorola_table, ti_table, microwire_table, table_of, lead_byte, bit_byte, end_byte, wait_byte, room_for, place_by, last_bit, word_start, goes_on, entered, level_of, byte_at, after_bits, passed, over, step_of};
+ghost use Rattle.judge.specs.Place.{motorola_table, ti_table, microwire_table, table_of, fss_weight, txd_weight, lead_byte, bit_byte, end_byte, wait_byte, room_for, place_by, last_bit, word_start, goes_on, entered, level_of, byte_at, after_bits, passed, over, step_of};
 
+use registers::bits::bit_at;
 use registers::settings::{Format, Settings};
 
 // Line bytes with nSSPOE HIGH: alone, with FSS, with FSS and CLK.
@@ -76,19 +79,11 @@ pub struct Place {
     pub count: u8,
 }
 
-// Whether a byte fits, and the slot after it.
-#[derive(Clone, Copy)]
-pub struct Next {
-    pub fits: bool,
-    pub place: Place,
-}
-
 // The byte of a slot in a frame with TXD LOW; `clk` is CLK before SPO inverts it.
 fn low_byte(s: Settings, clk: bool) -> u8
     ensures { result ≡ byte_of (low s clk false) }
 {
-    let f = s.format;
-    let driven = frames::lines::clock_on(f, s.polarity, clk);
+    let driven = frames::lines::clock_on(s.format, s.polarity, clk);
     frames::lines::value_of(driven, 1)
 }
 
@@ -96,357 +91,288 @@ fn low_byte(s: Settings, clk: bool) -> u8
 fn idle_byte(s: Settings) -> u8
     ensures { result ≡ byte_of (idle s) }
 {
-    let f = s.format;
-    frames::lines::byte_of(frames::lines::idle_on(f, s.polarity))
+    frames::lines::byte_of(frames::lines::idle_on(s.format, s.polarity))
 }
 
-// One of two numbers.
-fn choose(test: bool, a: u8, b: u8) -> u8
-    ensures { result ≡ pick test a b }
+fn fss_weight(fss: bool) -> u16
+    ensures { result ≡ fss_weight fss }
 {
-    if test { a } else { b }
+    frames::lines::value_of(fss, 2) as u16
 }
 
-fn motorola_table(s: Settings) -> Table
-    ensures { result ≡ motorola_table s }
+fn txd_weight(txd: bool) -> u16
+    ensures { result ≡ txd_weight txd }
 {
-    let phase = s.phase;
-    let low = low_byte(s, false);
-    Table {
-        width: s.bits,
-        leads: 1,
-        again: choose(phase, 0, 1),
-        waits: choose(phase, 0, 3),
-        closes: choose(phase, 3, 0),
-        marks: false,
-        clocked: false,
-        lead: low,
-        early: low,
-        first: low_byte(s, phase),
-        second: low_byte(s, !phase),
-        hold: low,
-        holds: true,
-        idle: idle_byte(s),
-    }
+    frames::lines::value_of(txd, 4) as u16
 }
 
-fn ti_table(s: Settings) -> Table
-    ensures { result ≡ ti_table s }
-{
-    let idle = idle_byte(s);
-    Table {
-        width: s.bits,
-        leads: 2,
-        again: 0,
-        waits: 0,
-        closes: 0,
-        marks: true,
-        clocked: false,
-        lead: MARKED,
-        early: MARKED_CLOCK,
-        first: low_byte(s, true),
-        second: low_byte(s, false),
-        hold: idle,
-        holds: false,
-        idle,
-    }
-}
-
-fn microwire_table(s: Settings) -> Table
-    requires { s.bits < 17 }
-    ensures { result ≡ microwire_table s }
-{
-    let idle = idle_byte(s);
-    Table {
-        width: 8,
-        leads: 0,
-        again: 0,
-        waits: 2 * s.bits + 2,
-        closes: 3,
-        marks: false,
-        clocked: true,
-        lead: idle,
-        early: idle,
-        first: low_byte(s, false),
-        second: low_byte(s, true),
-        hold: QUIET,
-        holds: false,
-        idle,
-    }
-}
-
-// The table for these settings.
-pub(crate) fn table_of(s: Settings) -> Table
-    requires { s.bits < 17 }
-    ensures { result ≡ table_of s }
-{
-    let f = s.format;
-    match f {
-        Format::Motorola => motorola_table(s),
-        Format::Ti => ti_table(s),
-        Format::Microwire => microwire_table(s),
-        Format::Reserved => motorola_table(s),
-    }
-}
-
-fn lead_byte(t: Table, n: u8) -> u16
-    ensures { result ≡ lead_byte t n }
-{
-    if n == 1 {
-        t.lead as u16
-    } else {
-        t.early as u16
-    }
-}
-
+// The byte of a slot of a bit: `base` has its clock, `more` sets FSS HIGH.
 fn bit_byte(base: u8, more: bool, level: bool) -> u16
     ensures { result ≡ bit_byte base more level }
 {
-    base as u16 + frames::lines::value_of(more, 2) as u16 + frames::lines::value_of(level, 4) as u16
+    base as u16 + fss_weight(more) + txd_weight(level)
 }
 
-fn end_byte(t: Table, level: bool, n: u8) -> u16
-    ensures { result ≡ end_byte t level n }
-{
-    if n == 3 {
-        return t.hold as u16 + frames::lines::value_of(t.holds & level, 4) as u16;
-    }
-    t.idle as u16
-}
-
-fn wait_byte(t: Table, level: bool, n: u8) -> u16
-    ensures { result ≡ wait_byte t level n }
-{
-    let clocked = t.clocked;
-    if clocked {
-        // nSSPOE HIGH, and CLK HIGH in every other slot
-        return 8 + (n % 2) as u16;
-    }
-    end_byte(t, level, n)
-}
-
-// One slot, or bit, less.
-fn less_one(n: u8) -> u8
-    ensures { result ≡ n - 1 }
-{
-    if 1 <= n { n - 1 } else { 0 }
-}
-
-fn last_bit(p: Place) -> bool
-    ensures { result ≡ last_bit p }
-{
-    registers::bits::bit_at(p.word as u32, 0)
-}
-
-// Whether another word may follow.
-fn room_for(p: Place) -> bool
-    ensures { result ≡ room_for p }
-{
-    p.count as u16 + 1 < MOST_WORDS
-}
-
-// The start of a word.
-pub(crate) fn word_start(t: Table, leads: u8, count: u8) -> Place
-    ensures { result ≡ word_start t leads count }
-{
-    if leads == 0 {
-        return Place {
-            stage: Stage::First,
-            left: t.width,
-            word: 0,
+impl Place {
+    // A place with no word marked to follow.
+    fn at(stage: Stage, left: u8, word: u16, count: u8) -> Place
+        ensures { result ≡ place_by stage left word false count }
+    {
+        Place {
+            stage,
+            left,
+            word,
             more: false,
             count,
-        };
-    }
-    Place {
-        stage: Stage::Lead,
-        left: leads,
-        word: 0,
-        more: false,
-        count,
-    }
-}
-
-// Whether byte x begins another word.
-fn goes_on(t: Table, p: Place, x: u8) -> bool
-    ensures { result ≡ goes_on t p x }
-{
-    let marks = t.marks;
-    if marks {
-        return p.more;
-    }
-    let closing = end_byte(t, last_bit(p), t.closes);
-    room_for(p) & ((t.closes == 0) | (x as u16 != closing))
-}
-
-// The place of byte x, which comes after p.
-fn entered(t: Table, p: Place, x: u8) -> Place
-    requires { p.count < 8 }
-    ensures { result ≡ entered t p x }
-{
-    let stage = p.stage;
-    match stage {
-        Stage::Lead => p,
-        Stage::First => {
-            let last = t.marks & (p.left == 1);
-            let marked = registers::bits::bit_at(x as u32, 1) & room_for(p);
-            Place {
-                stage: Stage::First,
-                left: p.left,
-                word: p.word,
-                more: last & marked,
-                count: p.count,
-            }
         }
-        Stage::Second => p,
-        Stage::Wait => p,
-        Stage::Turn => {
-            let on = goes_on(t, p, x);
-            if on {
-                return word_start(t, t.again, p.count + 1);
-            }
-            Place {
-                stage: Stage::Close,
-                left: t.closes,
-                word: p.word,
-                more: false,
-                count: p.count,
-            }
+    }
+
+    fn last_bit(self) -> bool
+        ensures { result ≡ last_bit self }
+    {
+        bit_at(self.word as u32, 0)
+    }
+
+    // Whether another word may follow.
+    fn room_for(self) -> bool
+        ensures { result ≡ room_for self }
+    {
+        self.count as u16 + 1 < MOST_WORDS
+    }
+
+    // The data level of a slot with byte x.
+    fn level_of(self, x: u8) -> bool
+        ensures { result ≡ level_of self x }
+    {
+        match self.stage {
+            Stage::First => bit_at(x as u32, 2),
+            _ => self.last_bit(),
         }
-        Stage::Close => p,
     }
 }
 
-// The data level of a slot.
-fn level_of(p: Place, x: u8) -> bool
-    ensures { result ≡ level_of p x }
-{
-    let stage = p.stage;
-    match stage {
-        Stage::Lead => last_bit(p),
-        Stage::First => registers::bits::bit_at(x as u32, 2),
-        Stage::Second => last_bit(p),
-        Stage::Wait => last_bit(p),
-        Stage::Turn => last_bit(p),
-        Stage::Close => last_bit(p),
-    }
-}
-
-// The byte of a slot.
-fn byte_at(t: Table, p: Place, level: bool) -> u16
-    ensures { result ≡ byte_at t p level }
-{
-    let stage = p.stage;
-    match stage {
-        Stage::Lead => lead_byte(t, p.left),
-        Stage::First => bit_byte(t.first, p.more, level),
-        Stage::Second => bit_byte(t.second, p.more, level),
-        Stage::Wait => wait_byte(t, level, p.left),
-        Stage::Turn => end_byte(t, level, p.left),
-        Stage::Close => end_byte(t, level, p.left),
-    }
-}
-
-// The place after a word's last bit.
-fn after_bits(t: Table, p: Place) -> Place
-    ensures { result ≡ after_bits t p }
-{
-    if t.waits == 0 {
-        return Place {
-            stage: Stage::Turn,
-            left: 0,
-            word: p.word,
-            more: p.more,
-            count: p.count,
-        };
-    }
-    Place {
-        stage: Stage::Wait,
-        left: t.waits,
-        word: p.word,
-        more: false,
-        count: p.count,
-    }
-}
-
-// A place of another stage, with no word marked to follow.
-fn place_at(stage: Stage, left: u8, word: u16, count: u8) -> Place
-    ensures { result ≡ place_by stage left word false count }
-{
-    Place {
-        stage,
-        left,
-        word,
-        more: false,
-        count,
-    }
-}
-
-// The place after a slot.
-fn passed(t: Table, p: Place, level: bool) -> Place
-    ensures { result ≡ passed t p level }
-{
-    let last = p.left == 1;
-    let left = less_one(p.left);
-    let stage = p.stage;
-    match stage {
-        Stage::Lead => {
-            if last {
-                return place_at(Stage::First, t.width, 0, p.count);
-            }
-            place_at(Stage::Lead, left, 0, p.count)
+impl Table {
+    fn motorola(s: Settings) -> Table
+        ensures { result ≡ motorola_table s }
+    {
+        let low = low_byte(s, false);
+        let (again, waits, closes) = if s.phase { (0, 0, 3) } else { (1, 3, 0) };
+        Table {
+            width: s.bits,
+            leads: 1,
+            again,
+            waits,
+            closes,
+            marks: false,
+            clocked: false,
+            lead: low,
+            early: low,
+            first: low_byte(s, s.phase),
+            second: low_byte(s, !s.phase),
+            hold: low,
+            holds: true,
+            idle: idle_byte(s),
         }
-        Stage::First => Place {
-            stage: Stage::Second,
-            left: p.left,
-            word: frames::bits::shifted_in(p.word, level),
-            more: p.more,
-            count: p.count,
-        },
-        Stage::Second => {
-            if last {
-                return after_bits(t, p);
-            }
-            place_at(Stage::First, left, p.word, p.count)
-        }
-        Stage::Wait => {
-            if last {
-                return place_at(Stage::Turn, 0, p.word, p.count);
-            }
-            place_at(Stage::Wait, left, p.word, p.count)
-        }
-        Stage::Turn => p,
-        Stage::Close => place_at(Stage::Close, left, p.word, p.count),
     }
-}
 
-// Whether a recording may end here.
-pub(crate) fn over(t: Table, p: Place) -> bool
-    ensures { result ≡ over t p }
-{
-    let stage = p.stage;
-    match stage {
-        Stage::Lead => false,
-        Stage::First => false,
-        Stage::Second => false,
-        Stage::Wait => false,
-        Stage::Turn => !p.more & (t.closes == 0),
-        Stage::Close => p.left == 0,
+    fn ti(s: Settings) -> Table
+        ensures { result ≡ ti_table s }
+    {
+        let idle = idle_byte(s);
+        Table {
+            width: s.bits,
+            leads: 2,
+            again: 0,
+            waits: 0,
+            closes: 0,
+            marks: true,
+            clocked: false,
+            lead: MARKED,
+            early: MARKED_CLOCK,
+            first: low_byte(s, true),
+            second: low_byte(s, false),
+            hold: idle,
+            holds: false,
+            idle,
+        }
     }
-}
 
-// Whether byte x fits the next slot, and the place after it.
-pub(crate) fn step(t: Table, p: Place, x: u8) -> Next
-    requires { p.count < 8 }
-    ensures { result ≡ step_of t p x }
-{
-    let here = entered(t, p, x);
-    let level = level_of(here, x);
-    let end = over(t, here);
-    let expected = byte_at(t, here, level);
-    let place = passed(t, here, level);
-    Next {
-        fits: !end & (x as u16 == expected),
-        place,
+    fn microwire(s: Settings) -> Table
+        requires { s.bits < 17 }
+        ensures { result ≡ microwire_table s }
+    {
+        let idle = idle_byte(s);
+        Table {
+            width: 8,
+            leads: 0,
+            again: 0,
+            waits: 2 * s.bits + 2,
+            closes: 3,
+            marks: false,
+            clocked: true,
+            lead: idle,
+            early: idle,
+            first: low_byte(s, false),
+            second: low_byte(s, true),
+            hold: QUIET,
+            holds: false,
+            idle,
+        }
+    }
+
+    // The table for these settings; the reserved format is never enabled.
+    pub(crate) fn of(s: Settings) -> Table
+        requires { s.bits < 17 }
+        ensures { result ≡ table_of s }
+    {
+        match s.format {
+            Format::Motorola | Format::Reserved => Table::motorola(s),
+            Format::Ti => Table::ti(s),
+            Format::Microwire => Table::microwire(s),
+        }
+    }
+
+    fn lead_byte(self, n: u8) -> u16
+        ensures { result ≡ lead_byte self n }
+    {
+        if n == 1 {
+            self.lead as u16
+        } else {
+            self.early as u16
+        }
+    }
+
+    fn end_byte(self, level: bool, n: u8) -> u16
+        ensures { result ≡ end_byte self level n }
+    {
+        if n == 3 {
+            return self.hold as u16 + txd_weight(self.holds & level);
+        }
+        self.idle as u16
+    }
+
+    fn wait_byte(self, level: bool, n: u8) -> u16
+        ensures { result ≡ wait_byte self level n }
+    {
+        if self.clocked {
+            // nSSPOE HIGH, and CLK HIGH in every other slot
+            return 8 + (n % 2) as u16;
+        }
+        self.end_byte(level, n)
+    }
+
+    // The start of a word.
+    pub(crate) fn word_start(self, leads: u8, count: u8) -> Place
+        ensures { result ≡ word_start self leads count }
+    {
+        if leads == 0 {
+            return Place::at(Stage::First, self.width, 0, count);
+        }
+        Place::at(Stage::Lead, leads, 0, count)
+    }
+
+    // Whether byte x begins another word.
+    fn goes_on(self, p: Place, x: u8) -> bool
+        ensures { result ≡ goes_on self p x }
+    {
+        if self.marks {
+            return p.more;
+        }
+        let closing = self.end_byte(p.last_bit(), self.closes);
+        p.room_for() & ((self.closes == 0) | (x as u16 != closing))
+    }
+
+    // The place of byte x, which comes after p.
+    fn entered(self, p: Place, x: u8) -> Place
+        requires { p.count < 8 }
+        ensures { result ≡ entered self p x }
+    {
+        match p.stage {
+            Stage::First => {
+                let last = self.marks & (p.left == 1);
+                let marked = bit_at(x as u32, 1) & p.room_for();
+                Place {
+                    more: last & marked,
+                    ..p
+                }
+            }
+            Stage::Turn => {
+                if self.goes_on(p, x) {
+                    return self.word_start(self.again, p.count + 1);
+                }
+                Place::at(Stage::Close, self.closes, p.word, p.count)
+            }
+            _ => p,
+        }
+    }
+
+    // The byte of a slot.
+    fn byte_at(self, p: Place, level: bool) -> u16
+        ensures { result ≡ byte_at self p level }
+    {
+        match p.stage {
+            Stage::Lead => self.lead_byte(p.left),
+            Stage::First => bit_byte(self.first, p.more, level),
+            Stage::Second => bit_byte(self.second, p.more, level),
+            Stage::Wait => self.wait_byte(level, p.left),
+            Stage::Turn | Stage::Close => self.end_byte(level, p.left),
+        }
+    }
+
+    // The place after a word's last bit.
+    fn after_bits(self, p: Place) -> Place
+        ensures { result ≡ after_bits self p }
+    {
+        if self.waits == 0 {
+            return Place {
+                stage: Stage::Turn,
+                left: 0,
+                ..p
+            };
+        }
+        Place::at(Stage::Wait, self.waits, p.word, p.count)
+    }
+
+    // The place after a slot.
+    fn passed(self, p: Place, level: bool) -> Place
+        ensures { result ≡ passed self p level }
+    {
+        let left = p.left.saturating_sub(1);
+        match p.stage {
+            Stage::Lead if p.left == 1 => Place::at(Stage::First, self.width, 0, p.count),
+            Stage::Lead => Place::at(Stage::Lead, left, 0, p.count),
+            Stage::First => Place {
+                stage: Stage::Second,
+                word: frames::bits::shifted_in(p.word, level),
+                ..p
+            },
+            Stage::Second if p.left == 1 => self.after_bits(p),
+            Stage::Second => Place::at(Stage::First, left, p.word, p.count),
+            Stage::Wait if p.left == 1 => Place::at(Stage::Turn, 0, p.word, p.count),
+            Stage::Wait | Stage::Close => Place::at(p.stage, left, p.word, p.count),
+            Stage::Turn => p,
+        }
+    }
+
+    // Whether a recording may end here.
+    pub(crate) fn over(self, p: Place) -> bool
+        ensures { result ≡ over self p }
+    {
+        match p.stage {
+            Stage::Turn => !p.more & (self.closes == 0),
+            Stage::Close => p.left == 0,
+            _ => false,
+        }
+    }
+
+    // The place after byte x, if it fits the next slot.
+    pub(crate) fn step(self, p: Place, x: u8) -> Option<Place>
+        requires { p.count < 8 }
+        ensures { result ≡ step_of self p x }
+    {
+        let here = self.entered(p, x);
+        let level = here.level_of(x);
+        let fits = !self.over(here) & (x as u16 == self.byte_at(here, level));
+        fits.then_some(self.passed(here, level))
     }
 }

@@ -8,8 +8,7 @@ use Rattle.device_record.specs.declared.run.Stop.{Stop}
 use Rattle.text.specs.Write.{written_numbers, write_answer, write_left}
 use Rattle.text.specs.Read.{cycles_in, starts_in, read_refusal, reading_numbers, read_answer, read_into}
 use Rattle.judge.specs.Shared.{shared, second_longer, difference}
-use Rattle.judge.specs.Judge.{Judged, verdict_numbers}
-use Rattle.judge.specs.declared.judge.Verdict.{Verdict}
+use Rattle.judge.specs.Judge.{Verdict, Judged, verdict_numbers}
 use Rattle.pl022.specs.declared.WordResult.{WordResult}
 use Rattle.pl022.specs.declared.CountResult.{CountResult}
 use Rattle.pl022.specs.declared.TextResult.{TextResult}

@@ -10,7 +10,6 @@ ghost use Rattle.pl022.specs.Results.{ReadResult, ran_numbers, RunResult, PairRe
 use device_record::calls::Edition;
 use device_record::refusals::Refusal;
 use device_record::run::{Ran, Stop};
-use judge::judge::Verdict;
 use serial::lost::Losses;
 
 // What a read answers.
@@ -238,19 +237,14 @@ pub extern "C" fn pl022_judge(
 ) -> CountResult
     ensures { JudgeResult cr0 cpsr recording.now words.old result words.new }
 {
-    let verdict = judge::judge::judge(cr0, cpsr, recording, words);
-    match verdict {
-        Verdict::Words(count) => CountResult {
+    match judge::judge::judge(cr0, cpsr, recording, words) {
+        Ok(count) => CountResult {
             refusal: 0,
             count: count as u64,
         },
-        Verdict::Leading(count) => CountResult {
-            refusal: judge::judge::NO_LIST as u64,
-            count: count as u64,
-        },
-        Verdict::Refused(refusal) => CountResult {
-            refusal: refusal as u64,
-            count: 0,
+        Err(rejection) => CountResult {
+            refusal: u8::from(rejection) as u64,
+            count: rejection.leading() as u64,
         },
     }
 }

@@ -1,7 +1,7 @@
-use Rattle.judge.specs.Place.{microwire_table}
+use Rattle.judge.specs.Place.{ti_table}
 use Rattle.frames.specs.Lines.{byte_of}
-use Rattle.judge.proofs.place.microwire_table.Goals as goal
+use Rattle.judge.proofs.place.Table.ti.Goals as goal
 
 pub returns : goal.returns
-unfolding microwire_table byte_of
+unfolding ti_table byte_of
 returns c = rw (c.low_byte-2.ensures, c.low_byte.ensures, c.idle_byte-idle.ensures)
