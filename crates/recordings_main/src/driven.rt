@@ -1,11 +1,11 @@
 // Ports driven by a wave, a digit of pins for each cycle: the recording, and three reads of DR.
-use crate::{Edition, Setup, put_cycle, put_received};
+use crate::{Edition, Recorded, Setup, put_cycle, put_received};
 use std::io;
 use std::io::Write;
 
 // A port of the first edition, at h = 1.
 #[derive(Clone, Copy)]
-struct Driven<'a> {
+pub(crate) struct Driven<'a> {
     name: &'a str,
     cr0: u32,
     cr1: u32,
@@ -13,7 +13,7 @@ struct Driven<'a> {
     wave: &'a str,
 }
 
-impl Driven<'_> {
+impl Recorded for Driven<'_> {
     fn put<W: Write>(&self, out: &mut W) -> io::Result<()> {
         let mut d = Setup {
             edition: Edition::First,
@@ -204,12 +204,10 @@ const MICROWIRE_ODD_PINS: &[Driven<'static>] = &[
     },
 ];
 
-// All of these recordings.
-pub(crate) fn all<W: Write>(out: &mut W) -> io::Result<()> {
-    for cases in [RECEIVERS, SLAVES, MICROWIRE_SLAVES, MICROWIRE_ODD_PINS] {
-        for case in cases {
-            case.put(out)?;
-        }
-    }
-    Ok(())
-}
+// All of these recordings, in order.
+pub(crate) const ALL: &[&[Driven<'static>]] = &[
+    RECEIVERS,
+    SLAVES,
+    MICROWIRE_SLAVES,
+    MICROWIRE_ODD_PINS,
+];

@@ -1,5 +1,5 @@
 // Words lost to overrun, cycle by cycle: masters in loopback that nobody reads.
-use crate::{Edition, Setup};
+use crate::{Edition, Recorded, Setup};
 use serial::Device;
 use std::io;
 use std::io::Write;
@@ -9,7 +9,7 @@ const LOOPBACK: u32 = 0x3;
 
 // A master of the first edition, at h = 1 and b = 4, with the cycles of eight words and of two.
 #[derive(Clone, Copy)]
-struct Overrun<'a> {
+pub(crate) struct Overrun<'a> {
     name: &'a str,
     cr0: u32,
     eight: u16,
@@ -17,7 +17,7 @@ struct Overrun<'a> {
 }
 
 // In Microwire a master in loopback receives zeros.
-const OVERRUNS: &[Overrun<'static>] = &[
+pub(crate) const ALL: &[Overrun<'static>] = &[
     Overrun {
         name: "SPH 0",
         cr0: 0x0003,
@@ -55,7 +55,7 @@ fn put_losses<W: Write>(out: &mut W, d: &mut Device, cycles: u16) -> io::Result<
     Ok(())
 }
 
-impl Overrun<'_> {
+impl Recorded for Overrun<'_> {
     // Eight words fill the receive queue, then two more are sent.
     fn put<W: Write>(&self, out: &mut W) -> io::Result<()> {
         let mut d = Setup {
@@ -73,12 +73,4 @@ impl Overrun<'_> {
         put_losses(out, &mut d, self.two)?;
         writeln!(out)
     }
-}
-
-// All of these recordings.
-pub(crate) fn all<W: Write>(out: &mut W) -> io::Result<()> {
-    for case in OVERRUNS {
-        case.put(out)?;
-    }
-    Ok(())
 }

@@ -131,11 +131,26 @@ fn put_received<W: Write, L: fmt::Display>(
     writeln!(out, "{label} received: {first} {second} {third}")
 }
 
+// A port that prints its recordings.
+trait Recorded {
+    fn put<W: Write>(&self, out: &mut W) -> io::Result<()>;
+}
+
+// The recordings of all ports of these tables.
+fn put_all<W: Write, R: Recorded>(out: &mut W, tables: &[&[R]]) -> io::Result<()> {
+    for table in tables {
+        for port in *table {
+            port.put(out)?;
+        }
+    }
+    Ok(())
+}
+
 fn main(rt: HostRuntime) -> io::Result<()> {
     let mut out = BufWriter::new(rt.alloc(), io::writer(&rt))?;
-    masters::all(&mut out)?;
-    driven::all(&mut out)?;
-    stopped::all(&mut out)?;
-    lost::all(&mut out)?;
+    put_all(&mut out, masters::ALL)?;
+    put_all(&mut out, driven::ALL)?;
+    put_all(&mut out, stopped::ALL)?;
+    put_all(&mut out, &[lost::ALL])?;
     out.flush()
 }

@@ -1,11 +1,11 @@
-// Masters from enabling on, with their pins LOW: single words, joined words, all sizes of slot.
-use crate::{Edition, SSE, Setup, put_cycle};
+// Masters that only send, from enabling on, with their pins LOW.
+use crate::{Edition, Recorded, SSE, Setup, put_cycle};
 use std::io;
 use std::io::Write;
 
 // A master of the first edition, recorded for a number of cycles.
 #[derive(Clone, Copy)]
-struct Master<'a> {
+pub(crate) struct Master<'a> {
     name: &'a str,
     cr0: u32,
     cpsr: u32,
@@ -13,7 +13,7 @@ struct Master<'a> {
     cycles: u16,
 }
 
-impl Master<'_> {
+impl Recorded for Master<'_> {
     fn put<W: Write>(&self, out: &mut W) -> io::Result<()> {
         let mut d = Setup {
             edition: Edition::First,
@@ -254,12 +254,5 @@ const MICROWIRE: &[Master<'static>] = &[
     },
 ];
 
-// All of these recordings.
-pub(crate) fn all<W: Write>(out: &mut W) -> io::Result<()> {
-    for cases in [PAPER, SPH0, SPH1, TI, MICROWIRE] {
-        for case in cases {
-            case.put(out)?;
-        }
-    }
-    Ok(())
-}
+// All of these recordings, in order.
+pub(crate) const ALL: &[&[Master<'static>]] = &[PAPER, SPH0, SPH1, TI, MICROWIRE];

@@ -1,5 +1,5 @@
 // Ports whose SSE is cleared in a frame, in both editions: the recording, three reads of DR, how many words are left to send.
-use crate::{CR1, Edition, SSE, Setup, put_cycle, put_received};
+use crate::{CR1, Edition, Recorded, SSE, Setup, put_cycle, put_received};
 use serial::Device;
 use std::io::Write;
 use std::{fmt, io};
@@ -11,7 +11,7 @@ const SECOND: &[Edition] = &[Edition::Second];
 
 // A port, and the cycles before which its SSE is cleared and set again.
 #[derive(Clone, Copy)]
-struct Stopped<'a> {
+pub(crate) struct Stopped<'a> {
     name: &'a str,
     editions: &'a [Edition],
     cr0: u32,
@@ -70,7 +70,9 @@ impl Stopped<'_> {
         put_received(out, &label, &mut d)?;
         writeln!(out, "{label} left: {:X}", crate::waiting(&d))
     }
+}
 
+impl Recorded for Stopped<'_> {
     fn put<W: Write>(&self, out: &mut W) -> io::Result<()> {
         for edition in self.editions {
             self.put_edition(out, *edition)?;
@@ -415,17 +417,10 @@ const RESUMED_SLAVES: &[Stopped<'static>] = &[
     },
 ];
 
-// All of these recordings.
-pub(crate) fn all<W: Write>(out: &mut W) -> io::Result<()> {
-    for cases in [
-        STOPPED_MASTERS,
-        RESUMED_MASTERS,
-        STOPPED_SLAVES,
-        RESUMED_SLAVES,
-    ] {
-        for case in cases {
-            case.put(out)?;
-        }
-    }
-    Ok(())
-}
+// All of these recordings, in order.
+pub(crate) const ALL: &[&[Stopped<'static>]] = &[
+    STOPPED_MASTERS,
+    RESUMED_MASTERS,
+    STOPPED_SLAVES,
+    RESUMED_SLAVES,
+];

@@ -7,27 +7,27 @@ use std::io;
 use std::io::Write;
 
 // A line with no colon is all label; commands that no line feed ends give nothing.
-fn line<W: Write>(out: &mut W, r: &mut Registers, text: &[u8]) -> io::Result<()> {
-    let Some(colon) = text.iter().position(|b| *b == b':') else {
-        return out.write_all(text);
+fn put_case<W: Write>(out: &mut W, r: &mut Registers, line: &[u8]) -> io::Result<()> {
+    let Some(colon) = line.iter().position(|b| *b == b':') else {
+        return out.write_all(line);
     };
-    let (label, rest) = text.split_at(colon + 1);
+    let (label, rest) = line.split_at(colon + 1);
     out.write_all(label)?;
     out.write_all(b" ")?;
-    let Some(list) = rest.strip_suffix(b"\n") else {
+    let Some(rest) = rest.strip_suffix(b"\n") else {
         return Ok(());
     };
     let mut outcome = Ok(None);
-    for command in list.split(|b| *b == b',') {
-        outcome = commands::run(r, command);
+    for text in rest.split(|b| *b == b',') {
+        outcome = commands::run(r, text);
     }
     writeln!(out, "{}", Shown(outcome))
 }
 
 pub(crate) fn run<W: Write>(out: &mut W, script: &[u8]) -> io::Result<()> {
     let mut r = commands::reset();
-    for text in script.split_inclusive(|b| *b == b'\n') {
-        line(out, &mut r, text)?;
+    for line in script.split_inclusive(|b| *b == b'\n') {
+        put_case(out, &mut r, line)?;
     }
     Ok(())
 }

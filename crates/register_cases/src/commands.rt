@@ -47,69 +47,71 @@ enum Command {
 
 // A number, decimal, or hexadecimal after an x.
 // Not `parse`: any text is a number. What is no digit counts as 0, and only the low 28 bits go on to the next digit.
-fn number_of(text: &[u8]) -> u32 {
+fn number(text: &[u8]) -> u32 {
     let mut is_hex = false;
-    let mut number = 0;
+    let mut sum = 0;
     for byte in text {
         if *byte == b'x' {
             is_hex = true;
         } else {
             let radix = if is_hex { 16 } else { 10 };
             let digit = char::from(*byte).to_digit(16).unwrap_or(0);
-            number = number % 0x1000_0000 * radix + digit;
+            sum = sum % 0x1000_0000 * radix + digit;
         }
     }
-    number
+    sum
 }
 
 // The last two numbers of a text, 0 where there are fewer. A number goes from a byte up to '9' to the next space.
-fn numbers_of(text: &[u8]) -> (u32, u32) {
+fn last_two(text: &[u8]) -> (u32, u32) {
     let mut first = 0;
     let mut last = 0;
     for word in text.split(|b| *b == b' ') {
         if let Some(start) = word.iter().position(|b| *b <= b'9') {
             first = last;
-            last = number_of(&word[start..]);
+            last = number(&word[start..]);
         }
     }
     (first, last)
 }
 
-// The command of a text. Its name is known by the first letter, after spaces and zero bytes.
-//   start, enable CR0 CPSR, write OFFSET VALUE, read OFFSET, peek OFFSET, load N, arrive N, cycles N, frame, take, h, bits,
-//   inspect WORD PLACE
-fn command_of(text: &[u8]) -> Option<Command> {
-    let mut bytes = text.iter();
-    let letter = *bytes.find(|b| **b != b' ' && **b != 0)?;
-    let (first, last) = numbers_of(bytes.as_slice());
-    let command = match letter {
-        b's' => Command::Start,
-        b'e' => Command::Enable {
-            cr0: first,
-            cpsr: last,
-        },
-        b'w' => Command::Write {
-            offset: first,
-            value: last,
-        },
-        b'r' => Command::Read { offset: last },
-        b'p' => Command::Peek { offset: last },
-        b'l' => Command::Load { words: last },
-        b'a' => Command::Arrive {
-            words: (last % 0x10000) as u16,
-        },
-        b'c' => Command::Cycles { count: last },
-        b'f' => Command::Frame,
-        b't' => Command::Take,
-        b'h' => Command::Divisor,
-        b'b' => Command::Bits,
-        b'i' => Command::Inspect {
-            word: first,
-            place: last,
-        },
-        _ => return None,
-    };
-    Some(command)
+impl Command {
+    // The command of a text. Its name is known by the first letter, after spaces and zero bytes.
+    //   start, enable CR0 CPSR, write OFFSET VALUE, read OFFSET, peek OFFSET, load N, arrive N, cycles N, frame, take, h,
+    //   bits, inspect WORD PLACE
+    fn parse(text: &[u8]) -> Option<Command> {
+        let mut bytes = text.iter();
+        let letter = *bytes.find(|b| **b != b' ' && **b != 0)?;
+        let (first, last) = last_two(bytes.as_slice());
+        let command = match letter {
+            b's' => Command::Start,
+            b'e' => Command::Enable {
+                cr0: first,
+                cpsr: last,
+            },
+            b'w' => Command::Write {
+                offset: first,
+                value: last,
+            },
+            b'r' => Command::Read { offset: last },
+            b'p' => Command::Peek { offset: last },
+            b'l' => Command::Load { words: last },
+            b'a' => Command::Arrive {
+                words: (last % 0x10000) as u16,
+            },
+            b'c' => Command::Cycles { count: last },
+            b'f' => Command::Frame,
+            b't' => Command::Take,
+            b'h' => Command::Divisor,
+            b'b' => Command::Bits,
+            b'i' => Command::Inspect {
+                word: first,
+                place: last,
+            },
+            _ => return None,
+        };
+        Some(command)
+    }
 }
 
 // Running it ----------------------------------------------------------------------------------------------------------
@@ -160,7 +162,7 @@ fn take(r: &mut Registers) -> u16 {
     word
 }
 
-// What the writes are refused is not shown.
+// A write that is refused changes nothing, and is not shown.
 fn enable(r: &mut Registers, cr0: u32, cpsr: u32) {
     *r = reset();
     let _ = write(r, CR0, cr0);
@@ -199,8 +201,8 @@ impl Command {
                 write(r, offset, value)?;
                 None
             }
-            Command::Read { offset } => Some(read(r, offset, false)? as u32),
-            Command::Peek { offset } => Some(read(r, offset, true)? as u32),
+            Command::Read { offset } => Some(u32::from(read(r, offset, false)?)),
+            Command::Peek { offset } => Some(u32::from(read(r, offset, true)?)),
             Command::Load { words } => {
                 load(r, words);
                 None
@@ -216,11 +218,11 @@ impl Command {
                 end_cycle(r, true);
                 None
             }
-            Command::Take => Some(take(r) as u32),
-            Command::Divisor => Some(settings::settings_of(*r).divisor.0 as u32),
-            Command::Bits => Some(settings::settings_of(*r).bits as u32),
+            Command::Take => Some(u32::from(take(r))),
+            Command::Divisor => Some(u32::from(settings::settings_of(*r).divisor.0)),
+            Command::Bits => Some(u32::from(settings::settings_of(*r).bits)),
             Command::Inspect { word, place } => {
-                Some(registers::bits::bit_at(word, place) as u32)
+                Some(u32::from(registers::bits::bit_at(word, place)))
             }
         };
         Ok(word)
@@ -229,7 +231,7 @@ impl Command {
 
 // Runs the command of a text; one that has no known name does nothing.
 pub(crate) fn run(r: &mut Registers, text: &[u8]) -> Outcome {
-    match command_of(text) {
+    match Command::parse(text) {
         Some(command) => command.run(r),
         None => Ok(None),
     }
