@@ -11,144 +11,228 @@ const DR: u32 = 0x08;
 
 const CPSR: u32 = 0x10;
 
-// What a command gives: a word or a refusal number, and the registers.
+// A word if the command gives one, or the number of a refusal.
+pub(crate) type Outcome = Result<Option<u32>, u8>;
+
 #[derive(Clone, Copy)]
-pub(crate) struct Outcome {
-    pub is_word: bool,
-    pub number: u32,
-    pub registers: Registers,
+enum Command {
+    // reset
+    Start,
+    // reset, then set up and enabled as a master
+    Enable { cr0: u32, cpsr: u32 },
+    Write { offset: u32, value: u32 },
+    // with no frame in progress
+    Read { offset: u32 },
+    // a read with a frame in progress
+    Peek { offset: u32 },
+    // the words 1 to `words` are written to DR
+    Load { words: u32 },
+    // the words 1 to `words` arrive; gives the last one if it is lost
+    Arrive { words: u16 },
+    // cycles that end with no frame in progress
+    Cycles { count: u32 },
+    // a cycle that ends with a frame in progress
+    Frame,
+    // the oldest word to send is taken
+    Take,
+    // h
+    Divisor,
+    // b
+    Bits,
+    // bit `place` of a word
+    Inspect { word: u32, place: u32 },
 }
 
-fn refused(n: u8, r: Registers) -> Outcome {
-    Outcome {
-        is_word: false,
-        number: n as u32,
-        registers: r,
+// Reading a command ---------------------------------------------------------------------------------------------------
+
+// A number, decimal, or hexadecimal after an x.
+// Not `parse`: any text is a number. What is no digit counts as 0, and only the low 28 bits go on to the next digit.
+fn number(text: &[u8]) -> u32 {
+    let mut is_hex = false;
+    let mut sum = 0;
+    for byte in text {
+        if *byte == b'x' {
+            is_hex = true;
+        } else {
+            let radix = if is_hex { 16 } else { 10 };
+            let digit = char::from(*byte).to_digit(16).unwrap_or(0);
+            sum = sum % 0x1000_0000 * radix + digit;
+        }
+    }
+    sum
+}
+
+// The last two numbers of a text, 0 where there are fewer. A number goes from a byte up to '9' to the next space.
+fn last_two(text: &[u8]) -> (u32, u32) {
+    let mut first = 0;
+    let mut last = 0;
+    for word in text.split(|b| *b == b' ') {
+        if let Some(start) = word.iter().position(|b| *b <= b'9') {
+            first = last;
+            last = number(&word[start..]);
+        }
+    }
+    (first, last)
+}
+
+impl Command {
+    // The command of a text. Its name is known by the first letter, after spaces and zero bytes.
+    //   start, enable CR0 CPSR, write OFFSET VALUE, read OFFSET, peek OFFSET, load N, arrive N, cycles N, frame, take, h,
+    //   bits, inspect WORD PLACE
+    fn parse(text: &[u8]) -> Option<Command> {
+        let mut bytes = text.iter();
+        let letter = *bytes.find(|b| **b != b' ' && **b != 0)?;
+        let (first, last) = last_two(bytes.as_slice());
+        let command = match letter {
+            b's' => Command::Start,
+            b'e' => Command::Enable {
+                cr0: first,
+                cpsr: last,
+            },
+            b'w' => Command::Write {
+                offset: first,
+                value: last,
+            },
+            b'r' => Command::Read { offset: last },
+            b'p' => Command::Peek { offset: last },
+            b'l' => Command::Load { words: last },
+            b'a' => Command::Arrive {
+                words: (last % 0x10000) as u16,
+            },
+            b'c' => Command::Cycles { count: last },
+            b'f' => Command::Frame,
+            b't' => Command::Take,
+            b'h' => Command::Divisor,
+            b'b' => Command::Bits,
+            b'i' => Command::Inspect {
+                word: first,
+                place: last,
+            },
+            _ => return None,
+        };
+        Some(command)
     }
 }
 
-fn done(r: Registers) -> Outcome {
-    refused(access::DONE, r)
+// Running it ----------------------------------------------------------------------------------------------------------
+
+pub(crate) fn reset() -> Registers {
+    registers::reset_registers(false)
 }
 
-fn word(n: u32, r: Registers) -> Outcome {
-    Outcome {
-        is_word: true,
-        number: n,
-        registers: r,
+fn write(r: &mut Registers, offset: u32, value: u32) -> Result<(), u8> {
+    let active = settings::enabled(*r);
+    let out = access::write(*r, active, offset, value);
+    *r = out.registers;
+    let refusal = out.refusal;
+    if refusal == access::DONE {
+        Ok(())
+    } else {
+        Err(refusal)
     }
 }
 
-fn write(r: Registers, offset: u32, value: u32) -> Outcome {
-    let active = settings::enabled(r);
-    let out = access::write(r, active, offset, value);
-    refused(out.refusal, out.registers)
-}
-
-fn read(r: Registers, offset: u32, frame: bool) -> Outcome {
-    let out = access::read(r, offset, frame);
-    let next = out.registers;
+fn read(r: &mut Registers, offset: u32, frame: bool) -> Result<u16, u8> {
+    let out = access::read(*r, offset, frame);
+    *r = out.registers;
     let answer = out.answer;
     match answer {
-        Answer::Word(w) => word(w as u32, next),
-        Answer::Refused(n) => refused(n, next),
+        Answer::Word(w) => Ok(w),
+        Answer::Refused(n) => Err(n),
     }
 }
 
-fn take(r: Registers) -> Outcome {
-    let w = transfer::next_word(r);
-    word(w as u32, transfer::take_word(r))
-}
-
-fn divisor(r: Registers) -> Outcome {
-    let s = settings::settings_of(r);
-    word(s.divisor.0 as u32, r)
-}
-
-fn bits(r: Registers) -> Outcome {
-    let s = settings::settings_of(r);
-    word(s.bits as u32, r)
-}
-
-fn inspect(r: Registers, w: u32, i: u32) -> Outcome {
-    word(registers::bits::bit_at(w, i) as u32, r)
-}
-
-fn set(r: Registers, offset: u32, value: u32) -> Registers {
-    let active = settings::enabled(r);
-    let out = access::write(r, active, offset, value);
-    out.registers
-}
-
-fn enabled(cr0: u32, cpsr: u32) -> Registers {
-    let a = set(registers::reset_registers(false), CR0, cr0);
-    let b = set(a, CPSR, cpsr);
-    set(b, CR1, 0x2)
-}
-
-fn load(r: Registers, n: u32) -> Registers {
-    let mut next = r;
-    for i in 1..=n {
-        next = set(next, DR, i);
-    }
-    next
-}
-
-// A word arrives; it is answered if it is lost.
-fn receive(r: Registers, w: u16) -> Outcome {
-    let out = transfer::receive_word(r, w);
+fn receive(r: &mut Registers, word: u16) -> Option<u16> {
+    let out = transfer::receive_word(*r, word);
+    *r = out.registers;
     let lost = out.lost;
-    let registers = out.registers;
     match lost {
-        Lost::Word(x) => word(x as u32, registers),
-        Lost::Nothing => done(registers),
+        Lost::Word(w) => Some(w),
+        Lost::Nothing => None,
     }
 }
 
-fn arrive(r: Registers, n: u16) -> Outcome {
-    let mut next = done(r);
-    for i in 1..=n {
-        next = receive(next.registers, i);
-    }
-    next
+fn end_cycle(r: &mut Registers, frame: bool) {
+    *r = transfer::end_cycle(*r, frame);
 }
 
-fn cycles(r: Registers, n: u32) -> Registers {
-    let mut next = r;
-    for _ in 0..n {
-        next = transfer::end_cycle(next, false);
-    }
-    next
+fn take(r: &mut Registers) -> u16 {
+    let word = transfer::next_word(*r);
+    *r = transfer::take_word(*r);
+    word
 }
 
-// Runs a command, which is known by its first letter. `last` is its last number, `first` the one before it.
-//   start            reset
-//   enable CR0 CPSR  reset, then set up and enabled as a master
-//   write OFFSET VALUE
-//   read OFFSET      with no frame in progress
-//   peek OFFSET      a read with a frame in progress
-//   load N           the words 1 to N are written to DR
-//   arrive N         the words 1 to N arrive; answers with the last one if it is lost
-//   cycles N         N cycles that end with no frame in progress
-//   frame            a cycle that ends with a frame in progress
-//   take             the oldest word to send is taken
-//   h, bits          h and b
-//   inspect W I      bit I of the word W
-pub(crate) fn run(r: Registers, letter: u8, first: u32, last: u32) -> Outcome {
-    match letter {
-        b's' => done(registers::reset_registers(false)),
-        b'e' => done(enabled(first, last)),
-        b'w' => write(r, first, last),
-        b'r' => read(r, last, false),
-        b'p' => read(r, last, true),
-        b'l' => done(load(r, last)),
-        b'a' => arrive(r, (last % 0x10000) as u16),
-        b'c' => done(cycles(r, last)),
-        b'f' => done(transfer::end_cycle(r, true)),
-        b't' => take(r),
-        b'h' => divisor(r),
-        b'b' => bits(r),
-        b'i' => inspect(r, first, last),
-        _ => done(r),
+// A write that is refused changes nothing, and is not shown.
+fn enable(r: &mut Registers, cr0: u32, cpsr: u32) {
+    *r = reset();
+    let _ = write(r, CR0, cr0);
+    let _ = write(r, CPSR, cpsr);
+    let _ = write(r, CR1, 0x2);
+}
+
+fn load(r: &mut Registers, words: u32) {
+    for word in 1..=words {
+        let _ = write(r, DR, word);
+    }
+}
+
+// The last of the words, if it is lost.
+fn arrive(r: &mut Registers, words: u16) -> Option<u16> {
+    let mut lost = None;
+    for word in 1..=words {
+        lost = receive(r, word);
+    }
+    lost
+}
+
+impl Command {
+    // What the command gives; a refused one leaves the registers as they were.
+    fn run(self, r: &mut Registers) -> Outcome {
+        let word = match self {
+            Command::Start => {
+                *r = reset();
+                None
+            }
+            Command::Enable { cr0, cpsr } => {
+                enable(r, cr0, cpsr);
+                None
+            }
+            Command::Write { offset, value } => {
+                write(r, offset, value)?;
+                None
+            }
+            Command::Read { offset } => Some(u32::from(read(r, offset, false)?)),
+            Command::Peek { offset } => Some(u32::from(read(r, offset, true)?)),
+            Command::Load { words } => {
+                load(r, words);
+                None
+            }
+            Command::Arrive { words } => arrive(r, words).map(u32::from),
+            Command::Cycles { count } => {
+                for _ in 0..count {
+                    end_cycle(r, false);
+                }
+                None
+            }
+            Command::Frame => {
+                end_cycle(r, true);
+                None
+            }
+            Command::Take => Some(u32::from(take(r))),
+            Command::Divisor => Some(u32::from(settings::settings_of(*r).divisor.0)),
+            Command::Bits => Some(u32::from(settings::settings_of(*r).bits)),
+            Command::Inspect { word, place } => {
+                Some(u32::from(registers::bits::bit_at(word, place)))
+            }
+        };
+        Ok(word)
+    }
+}
+
+// Runs the command of a text; one that has no known name does nothing.
+pub(crate) fn run(r: &mut Registers, text: &[u8]) -> Outcome {
+    match Command::parse(text) {
+        Some(command) => command.run(r),
+        None => Ok(None),
     }
 }

@@ -1,19 +1,30 @@
-// Parts of a case's line on standard output.
-use std::io;
-use std::io::Write;
+// How results are printed.
+use crate::commands::Outcome;
+use std::fmt;
 
-pub(crate) fn text<W: Write>(out: &mut W, bytes: &[u8]) -> io::Result<()> {
-    out.write_all(bytes)
-}
+// What a command gives, as the end of its case's line.
+#[derive(Clone, Copy, Debug)]
+pub(crate) struct Shown(pub Outcome);
 
-pub(crate) fn hex<W: Write>(out: &mut W, number: u32) -> io::Result<()> {
-    write!(out, "{number:#x}")
-}
-
-// 0 means done.
-pub(crate) fn refusal<W: Write>(out: &mut W, number: u32) -> io::Result<()> {
-    if number == 0 {
-        return text(out, b"done");
+impl fmt::Display for Shown {
+    fn fmt<W: fmt::Write>(&self, f: &mut fmt::Formatter<W>) -> fmt::Result {
+        match self.0 {
+            Ok(Some(word)) => write!(f, "{word:#x}"),
+            Ok(None) => write!(f, "done"),
+            Err(refusal) => write!(f, "refused {refusal}"),
+        }
     }
-    write!(out, "refused {number}")
+}
+
+// A word of a queue, if there was one.
+#[derive(Clone, Copy, Debug)]
+pub(crate) struct Found(pub Option<u16>);
+
+impl fmt::Display for Found {
+    fn fmt<W: fmt::Write>(&self, f: &mut fmt::Formatter<W>) -> fmt::Result {
+        match self.0 {
+            Some(word) => write!(f, "{word:#x}"),
+            None => write!(f, "none"),
+        }
+    }
 }
