@@ -13,21 +13,17 @@ use Rattle.std.specs.Prelude.{◌≢◌, Result, Ok, Err, Option, Some, None, is
 use Rattle.std.specs.Option.{ok_or}
 use Rattle.std.proofs.lemmas.Result.{err_from_is_err_and}
 use Rattle.registers.specs.Choose.{pick}
-use Rattle.registers.specs.Refusals.{first_of}
+use Rattle.registers.specs.Refusals.{first_of, Answer, Word, Refused}
 use Rattle.serial.specs.Lost.{none_lost}
-use Rattle.registers.specs.declared.access.Answer.{Answer}
-use Rattle.registers.specs.declared.access.Answer.TheVariants.{Word, Refused}
 use Rattle.serial.specs.Cycle.{DeviceModel, device_of, reset_device}
 use Rattle.serial.specs.Access.{read_device, write_device, Read, Write}
 use Rattle.serial.proofs.Accesses.{refused_read}
 use Rattle.device_record.specs.Record.{encoded, encode, decode, sound_bytes}
 use Rattle.device_record.specs.Run.{losses_of, after_bytes, outputs, lost_with, inputs_fit, stops_on, count_until, written, RunUntil, run_refusal}
 use Rattle.device_record.specs.Calls.{edition_of, pair_of_records, left_by, reset_refusal, record_refusal, read_call, write_call, run_count, run_lost, run_left, run_output, ResetCall, ReadCall, WriteCall, RunCall, RunsAll, pair_refusal, pair_after, pair_call_lost, PairCall}
-use Rattle.serial.specs.Pair.{PairModel, pair_run, pair_lost, swapped, pair_of, PairRun}
-use Rattle.serial.specs.declared.pair.PairRan.{PairRan}
+use Rattle.serial.specs.Pair.{PairModel, pair_run, pair_lost, swapped, PairRun}
+use Rattle.serial.specs.declared.pair.PairLosses.{PairLosses}
 use Rattle.serial.specs.declared.Device.{Device}
-use Rattle.serial.specs.declared.access.Reading.{Reading}
-use Rattle.serial.specs.declared.access.Written.{Written}
 use Rattle.device_record.specs.Refusals.{number, refusal_number, Checks}
 use Rattle.device_record.specs.declared.refusals.Refusal.{Refusal}
 use Rattle.device_record.specs.declared.refusals.Refusal.TheVariants.{Unsound, NoEdition}
@@ -144,38 +140,38 @@ module _ (b : List ℕ) (o : ℕ) where
   unfolding read_call
   read_unserved n e = let k = ne_eqb (record_refusal b) 0 e.1 in record { answer = rw (e.0, k); left = rw (k, k) }
 
-  module _ (z : record_refusal b ≡ 0) (s : Device) (r : Reading) (h : device_of s ≡ decode b) (g : Read (device_of s) o r) where
-    read_answer_lem : (a : Answer) → r.answer ≡ a → read_call b o ≡ a
+  module _ (z : record_refusal b ≡ 0) (s d' : DeviceModel) (a : Answer) (h : s ≡ decode b) (g : Read s o a d') where
+    read_answer_lem : read_call b o ≡ a
     unfolding read_call
-    read_answer_lem a q = rw z (rw (← h) (sym g.answer ∙ q))
+    read_answer_lem = rw z (rw (← h) (sym g.answer))
 
-    pub read_done_lem : (b' : List ℕ) (w : ℕ) → r.answer ≡ Word w → b' ≡ encode (device_of r.device) b → ReadCall b o (Word w) b'
+    pub read_done_lem : (b' : List ℕ) (w : ℕ) → a ≡ Word w → b' ≡ encode d' b → ReadCall b o (Word w) b'
     read_done_lem b' w q k =
-        let a = read_answer_lem (Word w) q in
-        record { answer = sym a; left = rw a (stored b b' (device_of r.device) (read_device (decode b) o) (record_passes b z) k (rw (← h) g.device)) }
+        let e = read_answer_lem ∙ q in
+        record { answer = sym e; left = rw e (stored b b' d' (read_device (decode b) o) (record_passes b z) k (rw (← h) g.device)) }
 
-    pub read_refused : (k : ℕ) → r.answer ≡ Refused k → ReadCall b o (Refused k) b
+    pub read_refused : (k : ℕ) → a ≡ Refused k → ReadCall b o (Refused k) b
     read_refused k q =
-        let a = read_answer_lem (Refused k) q in
-        record { answer = sym a; left = rw (a, refused_read (decode b) o k (rw (← h) (sym g.answer ∙ q))) }
+        let e = read_answer_lem ∙ q in
+        record { answer = sym e; left = rw (e, refused_read (decode b) o k (rw (← h) (sym g.answer ∙ q))) }
 
 module _ (b : List ℕ) (o v : ℕ) where
   pub write_unserved : (n : ℕ) → (n ≡ record_refusal b) × (record_refusal b ≢ 0) → WriteCall b o v n b
   unfolding write_call
   write_unserved n e = let k = ne_eqb (record_refusal b) 0 e.1 in record { refusal = rw (e.0, k); left = rw (k, k) }
 
-  module _ (z : record_refusal b ≡ 0) (s : Device) (r : Written) (h : device_of s ≡ decode b) (g : Write (device_of s) o v r) where
-    write_refusal_lem : r.refusal ≡ write_call b o v
+  module _ (z : record_refusal b ≡ 0) (s d' : DeviceModel) (n : ℕ) (h : s ≡ decode b) (g : Write s o v n d') where
+    write_refusal_lem : n ≡ write_call b o v
     unfolding write_call
     write_refusal_lem = rw z (rw h at g.refusal)
 
-    pub write_done_lem : (b' : List ℕ) → r.refusal ≡ 0 → b' ≡ encode (device_of r.device) b → WriteCall b o v 0 b'
+    pub write_done_lem : (b' : List ℕ) → n ≡ 0 → b' ≡ encode d' b → WriteCall b o v 0 b'
     write_done_lem b' q k =
         let y : write_call b o v ≡ 0 = sym write_refusal_lem ∙ q in
-        record { refusal = sym y; left = rw y (stored b b' (device_of r.device) (write_device (decode b) o v) (record_passes b z) k (rw (← h) g.device)) }
+        record { refusal = sym y; left = rw y (stored b b' d' (write_device (decode b) o v) (record_passes b z) k (rw (← h) g.device)) }
 
-    pub write_refused : r.refusal ≢ 0 → WriteCall b o v r.refusal b
-    write_refused q = record { refusal = write_refusal_lem; left = rw (← write_refusal_lem, ne_eqb r.refusal 0 q) }
+    pub write_refused : eqb n 0 ≡ false → WriteCall b o v n b
+    write_refused q = record { refusal = write_refusal_lem; left = rw (← write_refusal_lem, q) }
 
 -- Runs -----------------------------------------------------------------------------------------------------------------
 
@@ -295,19 +291,19 @@ module _ (one two : List ℕ) (l : length one ≡ 128) (m : length two ≡ 128) 
   both_sound z y = rw (pair_number, z, y)
 
 module _ (one two : List ℕ) where
-  pub pair_done : pair_refusal one two ≡ 0 → (cycles : ℕ) (one' two' : List ℕ) (p : PairModel) (r : PairRan) → PairRun cycles p r → p ≡ pair_of_records one two
-      → one' ≡ encode (device_of r.pair.first) one → two' ≡ encode (device_of r.pair.second) two → PairCall one two cycles (record { refusal = 0; first = r.first; second = r.second }) one' two'
-  unfolding pair_after pair_of pair_call_lost
-  pair_done z cycles one' two' p r h s j k =
+  pub pair_done : pair_refusal one two ≡ 0 → (cycles : ℕ) (one' two' : List ℕ) (p q : PairModel) (l : PairLosses) → PairRun cycles p l q → p ≡ pair_of_records one two
+      → one' ≡ encode q.first one → two' ≡ encode q.second two → PairCall one two cycles (record { refusal = 0; first = l.first; second = l.second }) one' two'
+  unfolding pair_after pair_call_lost
+  pair_done z cycles one' two' p q r h s j k =
       let z' : pair_refusal two one ≡ 0 = pair_refusal_swap one two ∙ z in
       let l = pair_passes one two z in
-      let g : pair_of r.pair ≡ pair_after one two cycles = h.pair ∙ ap (pair_run cycles) s in
+      let g : q ≡ pair_after one two cycles = h.pair ∙ ap (pair_run cycles) s in
       record {
         refusal = sym z;
         first_lost = h.first ∙ ap (λ (q : PairModel). losses_of (pair_lost cycles q)) s ∙ sym (ap (λ (x : ℕ). losses_of (pick (eqb x 0) (pair_lost cycles (record { first = decode one; second = decode two })) [])) z);
         second_lost = h.second ∙ ap (λ (q : PairModel). losses_of (pair_lost cycles (swapped q))) s ∙ sym (ap (λ (x : ℕ). losses_of (pick (eqb x 0) (pair_lost cycles (record { first = decode two; second = decode one })) [])) z');
-        first_left = stored one one' (device_of r.pair.first) (pair_after one two cycles).first l.0 j (ap (λ (x : PairModel). x.first) g) ∙ sym (ap (λ (x : ℕ). pick (eqb x 0) (encoded (pair_after one two cycles).first) one) z);
-        second_left = stored two two' (device_of r.pair.second) (pair_after one two cycles).second l.1 k (ap (λ (x : PairModel). x.second) g) ∙ sym (ap (λ (x : ℕ). pick (eqb x 0) (encoded (pair_after one two cycles).second) two) z);
+        first_left = stored one one' q.first (pair_after one two cycles).first l.0 j (ap (λ (x : PairModel). x.first) g) ∙ sym (ap (λ (x : ℕ). pick (eqb x 0) (encoded (pair_after one two cycles).first) one) z);
+        second_left = stored two two' q.second (pair_after one two cycles).second l.1 k (ap (λ (x : PairModel). x.second) g) ∙ sym (ap (λ (x : ℕ). pick (eqb x 0) (encoded (pair_after one two cycles).second) two) z);
       }
 
   pub pair_unserved : (cycles n : ℕ) → (n ≡ pair_refusal one two) × (pair_refusal one two ≢ 0) → PairCall one two cycles (record { refusal = n; first = none_lost; second = none_lost }) one two

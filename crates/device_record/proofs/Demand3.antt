@@ -7,8 +7,7 @@ use lib.Dec.{eqb}
 use lib.ListN.{length, replicate}
 use borrow.Author.Tests.{eq-eqb}
 use Rattle.registers.specs.Choose.{pick}
-use Rattle.registers.specs.Refusals.{refusal_of, first_of}
-use Rattle.registers.specs.declared.access.Answer.TheVariants.{Refused}
+use Rattle.registers.specs.Refusals.{refusal_of, first_of, Refused}
 use Rattle.serial.specs.Cycle.{DeviceModel}
 use Rattle.serial.specs.Access.{read_answer_of, read_device, write_refusal_of, write_device}
 use Rattle.serial.proofs.Accesses.{read_same, write_same}

@@ -7,10 +7,9 @@ use native.Mathlib.Omega.{arith}
 use lib.Dec.{eqb}
 use lib.ListN.{length, replicate}
 use Rattle.registers.specs.Choose.{pick}
-use Rattle.registers.specs.Refusals.{refusal_of}
+use Rattle.registers.specs.Refusals.{refusal_of, Refused}
 use Rattle.registers.specs.Offsets.{register_of}
 use Rattle.registers.specs.declared.offsets.Register.TheVariants.{Dr}
-use Rattle.registers.specs.declared.access.Answer.TheVariants.{Refused}
 use Rattle.registers.proofs.Picks.{pick_both}
 use Rattle.serial.specs.Access.{read_answer_of, read_device}
 use Rattle.serial.specs.Demand3.{Step, cycles_in}

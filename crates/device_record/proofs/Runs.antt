@@ -11,8 +11,8 @@ use lib.ListN.{length, get_or, take, drop, set, length-set, drop_of_length-le}
 use lib.Seq.{drop-cons, take-suc, set_at, length-take-le, take-length, drop-length}
 use Rattle.std.specs.List.{fold}
 use Rattle.frames.specs.Lines.{pins_of, byte_of}
-use Rattle.registers.specs.Transfer.{lost_words}
-use Rattle.registers.specs.declared.transfer.Lost.{Lost}
+use Rattle.std.specs.Prelude.{Option}
+use Rattle.registers.specs.Choose.{words_of}
 use Rattle.serial.specs.Cycle.{DeviceModel, cycle_of, lost_of}
 use Rattle.serial.specs.Lost.{highest, noted}
 use Rattle.serial.proofs.Losses.{Noting, noting_begin, noting_turn}
@@ -101,8 +101,8 @@ unfolding outputs after_bytes lost_with
 run_begin stops d ins outs l n e = record { within = omega arith; long = e; same = refl; count = omega arith; device = refl; lost = noting_begin l n; output = refl }
 
 module _ (stops : DeviceModel → Bool) (d : DeviceModel) (ins outs now : List ℕ) (s : DeviceModel) (l : Losses) (i : ℕ) (r : Running stops d ins outs now s l i) where
-  pub run_turn : (n : DeviceModel) (b : ℕ) (x : Lost) (l' : Losses) → i < length ins → i < highest → stops s ≡ false → n ≡ cycle_of s (pins_of (get_or ins i 0)) → b ≡ byte_of n.lines
-      → lost_words x ≡ lost_of s (pins_of (get_or ins i 0)) → l' ≡ noted l x → Running stops d ins outs (set now i b) n l' (i + 1)
+  pub run_turn : (n : DeviceModel) (b : ℕ) (x : Option ℕ) (l' : Losses) → i < length ins → i < highest → stops s ≡ false → n ≡ cycle_of s (pins_of (get_or ins i 0)) → b ≡ byte_of n.lines
+      → words_of x ≡ lost_of s (pins_of (get_or ins i 0)) → l' ≡ noted l x → Running stops d ins outs (set now i b) n l' (i + 1)
   run_turn n b x l' h hi t e f g k =
       let c : count_until stops s (drop i ins) ≡ 1 + count_until stops n (drop (i + 1) ins) = rw (add-one i, drop-cons ins i 0 h, e) (count_more stops s (get_or ins i 0) (drop (suc i) ins) t) in
       let z : length (outputs d (take i ins)) ≡ i = outputs-length d (take i ins) ∙ length-take-le i ins (omega arith) in

@@ -1,9 +1,7 @@
 -- What each call on records answers, and what it leaves in the caller's bytes. A refused call changes none of them.
 use Rattle.std.specs.Prelude.{Result, Ok, Err, ℕ, ◌≡◌, Bool, true, not, ◌||◌, List, [], ◌++◌, map, length, take, eqb}
 use Rattle.registers.specs.Choose.{pick}
-use Rattle.registers.specs.Refusals.{done, first_of, refusal_of}
-use Rattle.registers.specs.declared.access.Answer.{Answer}
-use Rattle.registers.specs.declared.access.Answer.TheVariants.{Refused}
+use Rattle.registers.specs.Refusals.{done, first_of, refusal_of, Answer, Refused}
 use Rattle.frames.specs.Lines.{pins_of}
 use Rattle.serial.specs.Cycle.{DeviceModel, reset_device, completed_in}
 use Rattle.serial.specs.Access.{read_answer_of, read_device, write_refusal_of, write_device}
@@ -17,7 +15,7 @@ use Rattle.device_record.specs.declared.refusals.Refusal.{Refusal}
 use Rattle.device_record.specs.declared.refusals.Refusal.TheVariants.{NoEdition}
 use Rattle.device_record.specs.declared.calls.Edition.{Edition}
 use Rattle.device_record.specs.declared.calls.Edition.TheVariants.{First, Second}
-use Rattle.device_record.specs.declared.calls.PairLosses.{PairLosses}
+use Rattle.serial.specs.declared.pair.PairLosses.{PairLosses}
 use Rattle.device_record.specs.declared.run.Ran.{Ran}
 use Rattle.device_record.specs.declared.run.Stop.{Stop}
 use Rattle.device_record.specs.declared.run.Stop.TheVariants.{Never}

@@ -1,8 +1,7 @@
 -- What a call on records is refused with, as a number; 0 means done. An access's own numbers are those of the registers.
 use Rattle.std.specs.Prelude.{ℕ, ◌≡◌, ◌≢◌, Result, Ok, Err}
-use Rattle.registers.specs.Refusals.{done}
-use Rattle.registers.specs.declared.access.Answer.{Answer}
-use Rattle.registers.specs.declared.access.Answer.TheVariants.{Word, Refused}
+use Rattle.registers.specs.Refusals.{done, Answer, Word, Refused}
+use Rattle.registers.specs.Refusals as registers
 use Rattle.device_record.specs.declared.refusals.Refusal.{Refusal}
 use Rattle.device_record.specs.declared.refusals.Refusal.TheVariants.{Access, Unsound, WrongLength, LinesDiffer, BadInput, NoEdition}
 
@@ -28,7 +27,7 @@ no_edition = 20
 
 -- A refusal's number.
 abbrev pub number : Refusal → ℕ
-number (Access n) = n
+number (Access access) = registers.number access
 number Unsound = unsound
 number WrongLength = wrong_length
 number LinesDiffer = lines_differ

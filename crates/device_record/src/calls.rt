@@ -10,10 +10,8 @@ ghost use Rattle.device_record.specs.Calls.{edition_of, record_refusal, pair_ref
 use crate::record::RECORD_LENGTH;
 use crate::refusals::Refusal;
 use crate::run::{Ran, Stop};
-use registers::access::Answer;
 use serial::Device;
-use serial::lost::Losses;
-use serial::pair::Wired;
+use serial::pair::{PairLosses, Wired};
 
 // The editions of the device.
 #[derive(Clone, Copy, Debug, PartialEq, Eq)]
@@ -34,13 +32,6 @@ impl TryFrom<u32> for Edition {
             _ => Err(Refusal::NoEdition),
         }
     }
-}
-
-// What each device of a pair run lost.
-#[derive(Clone, Copy)]
-pub struct PairLosses {
-    pub first: Losses,
-    pub second: Losses,
 }
 
 fn check_length(bytes: &[u8]) -> Result<(), Refusal>
@@ -93,7 +84,7 @@ pub fn reset_call(bytes: &mut [u8], edition: u32) -> Result<(), Refusal>
 {
     check_length(bytes)?;
     let second = Edition::try_from(edition)? == Edition::Second;
-    crate::record::encode(serial::reset_device(second), bytes);
+    crate::record::encode(Device::reset(second), bytes);
     Ok(())
 }
 
@@ -101,25 +92,19 @@ pub fn reset_call(bytes: &mut [u8], edition: u32) -> Result<(), Refusal>
 pub fn read_call(bytes: &mut [u8], offset: u32) -> Result<u16, Refusal>
     ensures { ReadCall bytes.old offset (answer_of result) bytes.new }
 {
-    let reading = serial::access::read(device_in(bytes)?, offset);
-    match reading.answer {
-        Answer::Word(word) => {
-            crate::record::encode(reading.device, bytes);
-            Ok(word)
-        }
-        Answer::Refused(number) => Err(Refusal::Access(number)),
-    }
+    let mut device = device_in(bytes)?;
+    let word = device.read(offset)?;
+    crate::record::encode(device, bytes);
+    Ok(word)
 }
 
 // Writes a register.
 pub fn write_call(bytes: &mut [u8], offset: u32, value: u32) -> Result<(), Refusal>
     ensures { WriteCall bytes.old offset value (refusal_number result) bytes.new }
 {
-    let written = serial::access::write(device_in(bytes)?, offset, value);
-    if written.refusal != 0 {
-        return Err(Refusal::Access(written.refusal));
-    }
-    crate::record::encode(written.device, bytes);
+    let mut device = device_in(bytes)?;
+    device.write(offset, value)?;
+    crate::record::encode(device, bytes);
     Ok(())
 }
 
@@ -142,11 +127,9 @@ pub fn run_call(
 pub fn pair_call(first: &mut [u8], second: &mut [u8], cycles: u64) -> Result<PairLosses, Refusal>
     ensures { PairCall first.old second.old cycles (pair_answer result) first.new second.new }
 {
-    let end = serial::pair::pair_run(pair_in(first, second)?, cycles);
-    crate::record::encode(end.pair.first, first);
-    crate::record::encode(end.pair.second, second);
-    Ok(PairLosses {
-        first: end.first,
-        second: end.second,
-    })
+    let mut pair = pair_in(first, second)?;
+    let lost = pair.run(cycles);
+    crate::record::encode(pair.first, first);
+    crate::record::encode(pair.second, second);
+    Ok(lost)
 }

@@ -1,13 +1,13 @@
 // The device record: a device as 128 bytes, and bytes as a device.
 ghost use Rattle.std.specs.Prelude.{◌≡◌, ◌+◌, ◌*◌, ◌≤◌, length, get_or, is_some, IfSome};
 ghost use Rattle.serial.specs.Cycle.{device_of};
-ghost use Rattle.device_record.specs.Record.{record_length, byte_at, WordOf, word_at, long_at, flag_at, words_at, lines_from, fields_at, engine_at, history_at, decode, pin_byte, state_bytes, word_bytes, PutAt, encode, sound_bytes};
+ghost use Rattle.device_record.specs.Record.{record_length, byte_at, WordOf, word_at, long_at, flag_at, words_at, fields_at, engine_at, history_at, decode, state_bytes, word_bytes, PutAt, encode, sound_bytes};
 
 use frames::engine::{Engine, Shift};
 use frames::lines::{Lines, Pins};
 use registers::fields::Fields;
 use registers::time::{Cycles, Slots};
-use registers::{Control, Masks, Timeout};
+use registers::{Control, Masks, Registers, Timeout};
 use serial::{Device, History};
 use std::array;
 
@@ -64,19 +64,6 @@ fn words_at(bytes: &[u8], place: u8) -> [u16; 8]
     })
 }
 
-// A line byte: CLK 1, FSS 2, TXD 4, nSSPOE 8.
-fn lines_from(byte: u8) -> Lines
-    ensures { result ≡ lines_from byte }
-{
-    let levels = byte as u32;
-    Lines {
-        clk: registers::bits::bit_at(levels, 0),
-        fss: registers::bits::bit_at(levels, 1),
-        txd: registers::bits::bit_at(levels, 2),
-        released: registers::bits::bit_at(levels, 3),
-    }
-}
-
 fn fields_at(bytes: &[u8]) -> Fields
     ensures { result ≡ fields_at bytes.now }
 {
@@ -129,9 +116,9 @@ fn history_at(bytes: &[u8]) -> History
     ensures { result ≡ history_at bytes.now }
 {
     History {
-        newest: frames::lines::pins_of(byte_at(bytes, 24)),
-        middle: frames::lines::pins_of(byte_at(bytes, 25)),
-        oldest: frames::lines::pins_of(byte_at(bytes, 26)),
+        newest: Pins::from(byte_at(bytes, 24)),
+        middle: Pins::from(byte_at(bytes, 25)),
+        oldest: Pins::from(byte_at(bytes, 26)),
     }
 }
 
@@ -140,25 +127,16 @@ pub fn decode(bytes: &[u8]) -> Device
     ensures { device_of result ≡ decode bytes.now }
 {
     let fields = fields_at(bytes);
-    let registers = registers::fields::restored(fields);
+    let registers = Registers::from(fields);
     let engine = engine_at(bytes);
     let pins = history_at(bytes);
-    let lines = lines_from(byte_at(bytes, 27));
+    let lines = Lines::from(byte_at(bytes, 27));
     Device {
         registers,
         engine,
         pins,
         lines,
     }
-}
-
-// A pin byte: CLK 1, FSS 2, RXD 4.
-fn pin_byte(p: Pins) -> u8
-    ensures { result ≡ pin_byte p }
-{
-    frames::lines::value_of(p.clk, 1)
-        + frames::lines::value_of(p.fss, 2)
-        + frames::lines::value_of(p.rxd, 4)
 }
 
 // Bytes 0 to 31, as words.
@@ -179,8 +157,8 @@ fn state_words(f: Fields, d: Device) -> [u16; 16]
         (d.engine.elapsed.0 % 0x10000) as u16,
         d.engine.shift.sending,
         d.engine.shift.receiving,
-        word_of(pin_byte(d.pins.newest), pin_byte(d.pins.middle)),
-        word_of(pin_byte(d.pins.oldest), frames::lines::byte_of(d.lines)),
+        word_of(u8::from(d.pins.newest), u8::from(d.pins.middle)),
+        word_of(u8::from(d.pins.oldest), u8::from(d.lines)),
         word_of(f.waiting, f.held),
         word_of(f.control.edition2 as u8, 0),
     ]
@@ -203,7 +181,7 @@ pub fn encode(d: Device, bytes: &mut [u8])
     ensures { bytes.new ≡ encode (device_of d) bytes.old }
 {
     if bytes.len() == RECORD_LENGTH {
-        let fields = registers::fields::fields_of(d.registers);
+        let fields = Fields::from(d.registers);
         let state = state_words(fields, d);
         let spare = [0u16; 32];
         put_words(bytes, 0, &state);
@@ -222,7 +200,7 @@ pub(crate) fn decode_sound(bytes: &[u8]) -> Option<Device>
     let mut again = [0u8; RECORD_LENGTH];
     encode(d, &mut again);
     let kept = again.as_slice() == bytes;
-    let good = serial::sound::sound_device(d);
+    let good = d.sound();
     if kept & good { Some(d) } else { None }
 }
 

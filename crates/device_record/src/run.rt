@@ -4,7 +4,7 @@ ghost use Rattle.serial.specs.Cycle.{device_of};
 ghost use Rattle.serial.specs.Busy.{busy_device};
 ghost use Rattle.device_record.specs.Run.{inputs_fit, stops_on, RunUntil};
 
-use registers::access::Answer;
+use frames::lines::Pins;
 use serial::Device;
 use serial::lost::Losses;
 
@@ -43,15 +43,13 @@ pub fn inputs_fit(input: &[u8]) -> bool
 }
 
 // BSY, as a read of SR gives it.
-pub fn busy_device(d: Device) -> bool
+pub fn busy_device(mut d: Device) -> bool
     ensures { result ≡ busy_device (device_of d) }
 {
-    let reading = serial::access::read(d, STATUS);
-    let answer = reading.answer;
-    let Answer::Word(status) = answer else {
-        return false;
-    };
-    registers::bits::bit_at(status as u32, BUSY)
+    match d.read(STATUS) {
+        Ok(status) => registers::bits::bit_at(status as u32, BUSY),
+        Err(_) => false,
+    }
 }
 
 fn stops_on(stop: Stop, d: Device) -> bool
@@ -67,21 +65,17 @@ fn stops_on(stop: Stop, d: Device) -> bool
 pub fn run_until(stop: Stop, device: &mut Device, input: &[u8], output: &mut [u8]) -> Ran
     ensures { RunUntil (stops_on stop) (device_of device.old) input.now output.old result (device_of device.new) output.new }
 {
-    let mut lost = serial::lost::none_lost();
+    let mut lost = Losses::none();
     if input.len() != output.len() {
         return Ran { count: 0, lost };
     }
-    let mut now = serial::cycle::not_run(*device);
-    for (i, pins) in input.iter().enumerate() {
-        if stops_on(stop, now.device) {
-            *device = now.device;
+    for (i, byte) in input.iter().enumerate() {
+        if stops_on(stop, *device) {
             return Ran { count: i, lost };
         }
-        now = serial::cycle::cycle_of(now.device, frames::lines::pins_of(*pins));
-        lost = serial::lost::noted(lost, now.lost);
-        output[i] = frames::lines::byte_of(now.device.lines);
+        lost.note(device.cycle(Pins::from(*byte)));
+        output[i] = u8::from(device.lines);
     }
-    *device = now.device;
     Ran {
         count: input.len(),
         lost,

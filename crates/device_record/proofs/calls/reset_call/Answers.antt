@@ -8,4 +8,4 @@ pub returns-in_err-try_from : goal.returns-in_err-try_from
 returns-in_err-try_from c = rw (handed_on _ _ c.from_residual-in_err-try_from.ensures.1) (reset_no_edition _ _ c.in_ok-check_length.ensures _ c.in_err-try_from.ensures)
 
 pub returns : goal.returns
-returns c = reset_done _ _ c.in_ok-check_length.ensures _ _ _ c.in_ok-try_from.ensures (rw c.eq-second.ensures at c.reset_device.ensures) c.encode.ensures
+returns c = reset_done _ _ c.in_ok-check_length.ensures _ _ _ c.in_ok-try_from.ensures (rw c.eq-second.ensures at c.reset.ensures) c.encode.ensures

@@ -4,4 +4,4 @@ use Rattle.device_record.proofs.record.decode.Goals as goal
 
 pub returns : goal.returns
 unfolding device_of decode
-returns c = rw (c.restored-registers.ensures, c.fields_at-fields.ensures, c.engine_at-engine.ensures, c.history_at-pins.ensures, c.lines_from-lines.ensures, c.byte_at.ensures)
+returns c = rw (c.from-registers.ensures, c.fields_at-fields.ensures, c.engine_at-engine.ensures, c.history_at-pins.ensures, c.from-lines.ensures, c.byte_at.ensures)

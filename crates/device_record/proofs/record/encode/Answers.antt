@@ -8,7 +8,7 @@ use Rattle.device_record.proofs.record.encode.Goals as goal
 
 pub returns-then-bytes-eq-RECORD_LENGTH : goal.returns-then-bytes-eq-RECORD_LENGTH
 unfolding encode encoded device_of
-returns-then-bytes-eq-RECORD_LENGTH c = rw (eq-eqb _ _ c.if-bytes-eq-RECORD_LENGTH.true) (put_record _ (model_of c.args.d.registers) c.args.d.engine c.args.d.pins c.args.d.lines c.state_words-state.ensures c.fields_of-fields.ensures c.put_words.ensures c.put_words-then-bytes-eq-RECORD_LENGTH.ensures c.put_words-then-bytes-eq-RECORD_LENGTH-2.ensures c.put_words-then-bytes-eq-RECORD_LENGTH-3.ensures c.if-bytes-eq-RECORD_LENGTH.true (search rules) (search rules))
+returns-then-bytes-eq-RECORD_LENGTH c = rw (eq-eqb _ _ c.if-bytes-eq-RECORD_LENGTH.true) (put_record _ (model_of c.args.d.registers) c.args.d.engine c.args.d.pins c.args.d.lines c.state_words-state.ensures c.from-fields.ensures c.put_words.ensures c.put_words-then-bytes-eq-RECORD_LENGTH.ensures c.put_words-then-bytes-eq-RECORD_LENGTH-2.ensures c.put_words-then-bytes-eq-RECORD_LENGTH-3.ensures c.if-bytes-eq-RECORD_LENGTH.true (search rules) (search rules))
 
 pub returns-else-bytes-eq-RECORD_LENGTH : goal.returns-else-bytes-eq-RECORD_LENGTH
 unfolding encode

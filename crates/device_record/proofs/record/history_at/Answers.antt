@@ -3,4 +3,4 @@ use Rattle.device_record.proofs.record.history_at.Goals as goal
 
 pub returns : goal.returns
 unfolding history_at
-returns c = rw (c.pins_of.ensures, c.pins_of-2.ensures, c.pins_of-3.ensures, c.byte_at.ensures, c.byte_at-2.ensures, c.byte_at-3.ensures)
+returns c = rw (c.from.ensures, c.from-2.ensures, c.from-3.ensures, c.byte_at.ensures, c.byte_at-2.ensures, c.byte_at-3.ensures)
