@@ -1,5 +1,5 @@
 -- A digit and its cycle determine each other.
-use Prim.Native.Nat.{ℕ, zero, suc, ◌+◌, ◌-◌, ◌≤◌, ◌<◌}
+use Prim.Native.Nat.{ℕ, suc, ◌+◌, ◌-◌, ◌≤◌, ◌<◌}
 use mathlib.Core.Path.{◌≡◌, refl, sym, ap, ◌∙◌}
 use mathlib.Core.Bool.{Bool, true, false, true≢false, false≢true, ◌&&◌, ◌||◌}
 use native.Mathlib.Omega.{arith}
@@ -7,9 +7,6 @@ use native.Mathlib.Decide.{dec_lt}
 use lib.Dec.{leb, eqb}
 use borrow.Author.Tests.{eqb-true, leb-true, lt-ltb, le-ltb, le-leb, lt-leb, ne_eqb}
 use Rattle.text.specs.Choose.{pick}
-use Rattle.text.specs.Refusals.{done, number, first_of}
-use Rattle.text.specs.declared.refusals.Refusal.{Refusal}
-use Rattle.text.specs.declared.refusals.Refusal.TheVariants.{TooManyCycles, BadCycle, BadPlaces, TooShort, BadCharacter, EmptyLine, NoLineFeed}
 use Rattle.text.specs.Text.{line_feed, digit_of, character_of, is_digit}
 use Rattle.text.specs.Read.{value_of, DigitValue}
 use Rattle.text.specs.declared.characters.Character.{Character}
@@ -18,21 +15,6 @@ use Rattle.text.specs.declared.characters.Character.TheVariants.{Digit, LineFeed
 pub and_split : (a b : Bool) → (a && b) ≡ true → (a ≡ true) × (b ≡ true)
 and_split true b e = (refl, e)
 and_split false b e = absurd (false≢true e)
-
--- Nothing is refused if neither of two is.
-pub first_done : (a b : ℕ) → first_of a b ≡ done → (a ≡ done) × (b ≡ done)
-first_done zero b e = (refl, e)
-first_done (suc a) b e = absurd (let n = rw (ne_eqb (suc a) 0 (λ z. omega arith)) at e in omega arith)
-
--- No refusal has the number 0.
-pub refused_number : (r : Refusal) → number r ≡ done → ⊥
-refused_number TooManyCycles e = let l : ◌≡◌ {A = ℕ} 13 0 = e in omega arith
-refused_number BadCycle e = let l : ◌≡◌ {A = ℕ} 14 0 = e in omega arith
-refused_number BadPlaces e = let l : ◌≡◌ {A = ℕ} 15 0 = e in omega arith
-refused_number TooShort e = let l : ◌≡◌ {A = ℕ} 16 0 = e in omega arith
-refused_number BadCharacter e = let l : ◌≡◌ {A = ℕ} 17 0 = e in omega arith
-refused_number EmptyLine e = let l : ◌≡◌ {A = ℕ} 18 0 = e in omega arith
-refused_number NoLineFeed e = let l : ◌≡◌ {A = ℕ} 19 0 = e in omega arith
 
 -- Bytes 48 to 57 and 65 to 70.
 

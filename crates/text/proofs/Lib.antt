@@ -1,3 +1,4 @@
+mod Numbers
 mod Digits
 mod Buffers
 mod Writing

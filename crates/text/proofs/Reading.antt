@@ -18,7 +18,8 @@ use Rattle.text.specs.Text.{line_feed, most_cycles, character_of, is_digit, Put}
 use Rattle.text.specs.Read.{cycle_at, start_at, refusal_at, cycles_in, starts_from, starts_in, refusal_from, text_refusal, read_refusal, Recording, Refused, ReadingNumbers, read_answer, value_of, digit_run, feed_place, Check, Room, Fill, ReadText}
 use Rattle.text.specs.declared.characters.Character.{Character}
 use Rattle.text.specs.declared.characters.Character.TheVariants.{Digit, LineFeed, Other}
-use Rattle.text.proofs.Digits.{first_done, digit_value, no_feed, feed_written}
+use Rattle.text.proofs.Numbers.{first_done}
+use Rattle.text.proofs.Digits.{digit_value, no_feed, feed_written}
 use Rattle.text.proofs.Buffers.{Filled, put_one, fill_more, fill_end}
 use Rattle.std.specs.Prelude.{cond, min, Some, None}
 use Rattle.std.specs.List.{position_or_len}

@@ -18,7 +18,8 @@ use Rattle.text.specs.Read.{cycle_at, start_at, refusal_at, refusal_at_end, cycl
 use Rattle.text.specs.RoundTrip.{Readable, Writable, Inverse, Gives, RoundTrip, FirstDecides, StartsAsPlaces, Enough, p4_recording, p4_text, Examples}
 use Rattle.text.specs.declared.characters.Character.{Character}
 use Rattle.text.specs.declared.characters.Character.TheVariants.{Digit, LineFeed, Other}
-use Rattle.text.proofs.Digits.{first_done, and_split, digit_read, digit_written, feed_written}
+use Rattle.text.proofs.Numbers.{first_done}
+use Rattle.text.proofs.Digits.{and_split, digit_read, digit_written, feed_written}
 use Rattle.text.proofs.Writing.{places_split, places_join, line_within, places_few, length_text, starts_fit, first_zero, length-between, recording_accepted, recording-done, write_ready}
 use Rattle.text.proofs.Reading.{refusal_feed, cycles_character, starts_character, accepted_character, accepted_next, cycles_most}
 

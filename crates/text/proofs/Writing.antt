@@ -15,7 +15,8 @@ use Rattle.text.specs.Choose.{pick}
 use Rattle.text.specs.Refusals.{done}
 use Rattle.text.specs.Text.{line_feed, digit_of, most_cycles, cycles_fit, places_fit, line_of, between, line_end, line_starts, lines_from, text_of, Put}
 use Rattle.text.specs.Write.{recording_refusal, write_refusal, Bytes, Refused, write_answer, write_left, lead_of, Lead, Lines, WriteText}
-use Rattle.text.proofs.Digits.{first_done, and_split}
+use Rattle.text.proofs.Numbers.{first_done}
+use Rattle.text.proofs.Digits.{and_split}
 use Rattle.text.proofs.Buffers.{Filled, put_none, put_one, fill_more, fill_put, put_put, put_over}
 use Rattle.std.specs.List.{fold}
 

@@ -28,7 +28,7 @@ impl From<u8> for Character {
     }
 }
 
-// The digit of a cycle; 0 for a cycle above 15, which has none. Not an Option, so that a loop can write many digits at once.
+// The digit of a cycle; 0 for a cycle above 15, which has none. Not an Option: whoever writes has refused such cycles before.
 #[tactic(auto, unfolding(crate::specs::Text::digit_of))]
 pub fn digit_of(cycle: u8) -> u8
     ensures { result ≡ digit_of cycle }

@@ -2,7 +2,8 @@
 ghost use Rattle.std.specs.Prelude.{ℕ, ◌+◌, ◌≤◌, map, length};
 ghost use Rattle.text.specs.Text.{Computes, Put};
 
-// Writes what `of` makes of each byte, from place `at` on; returns the next place.
+// Writes what `of` makes of each byte, from place `at` on; returns the next place. Buffer and place are not one
+// struct: whoever reads fills two buffers of different types, each from a place of its own.
 pub(crate) fn put_mapped<F: Fn(u8) -> u8>(
     bytes: &[u8],
     of: F,

@@ -2,7 +2,7 @@ use Rattle.std.proofs.Common.{◌≡◌, ◌<◌, ◌≤◌, length, get_or, ap,
 use Rattle.std.proofs.lemmas.Result.{err_from_is_err_and}
 use Rattle.text.specs.Text.{character_of}
 use Rattle.text.proofs.Reading.{check_unended, check_refused, check_turn, check_end}
-use Rattle.text.proofs.Digits.{refused_number}
+use Rattle.text.proofs.Numbers.{refused_number}
 use Rattle.text.proofs.read.check.Goals as goal
 
 pub returns-in_default : goal.returns-in_default

@@ -2,7 +2,7 @@ use Rattle.std.proofs.Common.{refl, arith}
 use Rattle.std.proofs.lemmas.Bool.Decides.{nat_tests}
 use Rattle.std.proofs.lemmas.Result.{err_from_is_err_and}
 use Rattle.text.proofs.Reading.{read_refused, read_short, read_gives}
-use Rattle.text.proofs.Digits.{refused_number}
+use Rattle.text.proofs.Numbers.{refused_number}
 use Rattle.text.proofs.read.read_text.Goals as goal
 use Rattle.text.proofs.read.read_text.Goals.{then-cycles-found-via-then-cycles-found, then-cycles-found-via-else-cycles-found+then-starts-found}
 

@@ -1,7 +1,7 @@
 use Rattle.std.proofs.Common.{refl}
 use Rattle.std.proofs.lemmas.Result.{err_from_is_err_and}
 use Rattle.text.proofs.Writing.{write_gives, write_keeps}
-use Rattle.text.proofs.Digits.{refused_number}
+use Rattle.text.proofs.Numbers.{refused_number}
 use Rattle.text.proofs.write.write_text.Goals as goal
 
 pub returns-in_err-write_refusal : goal.returns-in_err-write_refusal

@@ -1,7 +1,7 @@
 use Rattle.std.proofs.Common.{refl}
 use Rattle.std.proofs.lemmas.Result.{err_from_is_err_and}
 use Rattle.text.proofs.Writing.{write_refused, write_short, write_done_lem}
-use Rattle.text.proofs.Digits.{refused_number}
+use Rattle.text.proofs.Numbers.{refused_number}
 use Rattle.text.proofs.write.Recording.write_refusal.Goals as goal
 
 pub returns-in_err-recording_refusal : goal.returns-in_err-recording_refusal
