@@ -9,7 +9,9 @@ pub enum Refusal {
     Access(u8),
     Unsound,
     WrongLength,
+    // input and output of a run differ in length
     LinesDiffer,
+    // an input byte above 7
     BadInput,
     NoEdition,
 }
