@@ -273,7 +273,7 @@ pair_passes one two z =
 
 -- The tests of a pair run in their order.
 module _ (one two : List ℕ) (l : length one ≡ 128) (m : length two ≡ 128) where
-  pub pair_number : pair_refusal one two ≡ first_of (record_refusal one) (record_refusal two)
+  pair_number : pair_refusal one two ≡ first_of (record_refusal one) (record_refusal two)
   unfolding pair_refusal record_refusal
   pair_number = rw (eq-eqb (length one) 128 l, eq-eqb (length two) 128 m) (go (sound_bytes one) (sound_bytes two))
     where

@@ -1,7 +1,7 @@
 -- The loops over a record's bytes, each with a law for its start, a turn and its end, and the parts that make up a record.
 use Prim.Native.Nat.{ℕ, zero, suc, ◌+◌, ◌*◌, ◌/◌, ◌%◌, ◌≤◌, ◌<◌}
 use mathlib.Core.Path.{◌≡◌, refl, sym, ◌∙◌, ap, subst}
-use mathlib.Core.List.{List, [], ◌∷◌, ◌++◌, append_assoc, append-nil}
+use mathlib.Core.List.{List, [], ◌∷◌, ◌++◌, map, append_assoc, append-nil}
 use mathlib.Core.Bool.{Bool, true, false, ◌&&◌}
 use native.Mathlib.Omega.{arith}
 use native.Mathlib.Numerals.{add-one}
@@ -10,7 +10,10 @@ use mir.Val.{bool_byte}
 use lib.ListN.{length, get_or, take, drop, set, replicate, length-set, length-append, drop_of_length-le}
 use lib.Seq.{drop-drop, take_all, take_at, length-take-le, drop-append-add, paste, paste-zero, paste-suc, length-paste}
 use denote.Param.Members.{Mut, Called}
-use Rattle.std.specs.Array.{IsFromFnResultFrom}
+use Rattle.std.specs.Array.{IsFromFnResultFrom, IsFromFnResult}
+use Rattle.std.specs.List.{range_with_len}
+use Rattle.std.specs.Option.{is_some}
+use Rattle.std.specs.Bool.{then_some}
 use Rattle.std.specs.Str.{bytes_eq}
 use Rattle.std.proofs.lemmas.List.FromFn.{fill_by_all}
 use Rattle.registers.specs.Fields.{fields_of}
@@ -35,17 +38,17 @@ and-true false = refl
 
 -- what is a byte of a word is not cut
 
-pub low_fits : (w x : ℕ) → low w ≡ x → x % 256 ≡ x
+low_fits : (w x : ℕ) → low w ≡ x → x % 256 ≡ x
 low_fits w x e = omega arith
 
-pub high_fits : (w x : ℕ) → high w ≡ x → x % 256 ≡ x
+high_fits : (w x : ℕ) → high w ≡ x → x % 256 ≡ x
 high_fits w x e = omega arith
 
 -- two low bytes of a number are those of its low word
-pub low_word : (n : ℕ) → low (n % 0x10000) ≡ low n
+low_word : (n : ℕ) → low (n % 0x10000) ≡ low n
 low_word n = omega arith
 
-pub high_word : (n : ℕ) → high (n % 0x10000) ≡ high n
+high_word : (n : ℕ) → high (n % 0x10000) ≡ high n
 high_word n = omega arith
 
 -- the words of a state, as its bytes
@@ -70,7 +73,7 @@ pub put_start : (from : List ℕ) (at : ℕ) (part : List ℕ) → at + length p
 put_start from at part h = record { within = omega arith; room = h; same = refl; front = paste-zero from at part }
 
 module _ (from : List ℕ) (at : ℕ) (part to : List ℕ) (i : ℕ) (k : Putting from at part to i) where
-  pub put_turn : i < length part → Putting from at part (set to (at + i) (get_or part i 0)) (i + 1)
+  put_turn : i < length part → Putting from at part (set to (at + i) (get_or part i 0)) (i + 1)
   put_turn h =
       record {
         within = omega arith;
@@ -95,13 +98,13 @@ unfolding word_bytes
 length-words [] = refl
 length-words (w ∷ ws) = let h = length-words ws in omega arith
 
-pub byte_low : (ws : List ℕ) (i : ℕ) → i < length ws → get_or (word_bytes ws) (2 * i) 0 ≡ low (get_or ws i 0)
+byte_low : (ws : List ℕ) (i : ℕ) → i < length ws → get_or (word_bytes ws) (2 * i) 0 ≡ low (get_or ws i 0)
 unfolding word_bytes
 byte_low [] i h = absurd (omega arith)
 byte_low (w ∷ ws) zero h = refl
 byte_low (w ∷ ws) (suc i) h = let e : 2 * suc i ≡ suc (suc (2 * i)) = omega arith in rw e (byte_low ws i (omega arith))
 
-pub byte_high : (ws : List ℕ) (i : ℕ) → i < length ws → get_or (word_bytes ws) (2 * i + 1) 0 ≡ high (get_or ws i 0)
+byte_high : (ws : List ℕ) (i : ℕ) → i < length ws → get_or (word_bytes ws) (2 * i + 1) 0 ≡ high (get_or ws i 0)
 unfolding word_bytes
 byte_high [] i h = absurd (omega arith)
 byte_high (w ∷ ws) zero h = refl
@@ -118,15 +121,19 @@ words_turn from at ws to i k h =
     rw (e, n) at second
 
 -- what `array::from_fn` makes with a closure that answers h x at x and stays as it is
-pub made_at : {F : Type 0} (g : Mut F (ℕ × Unit {0}) ℕ) (h : ℕ → ℕ) (f : F) (ys : List ℕ) (i n : ℕ) → ((x y : ℕ) (q : F) → Called g f (x, tt) y q → (q ≡ f) × (y ≡ h x))
-    → IsFromFnResultFrom g f ys i n → (k j : ℕ) → k < n → i + k ≡ j → get_or ys j 0 ≡ h j
-made_at g h f ys i zero step r k j l e = absurd (omega arith)
-made_at g h f ys i (suc n) step (q, y, place, called, rest) zero j l e =
-    let at : i ≡ j = omega arith in
-    rw (← at) (place.1 0 ∙ (step i y q called).1)
-made_at {F} g h f ys i (suc n) step (q, y, place, called, rest) (suc k) j l e =
-    let same = subst (λ (s : F). IsFromFnResultFrom g s ys (i + 1) n) (step i y q called).0 rest in
-    made_at g h f ys (i + 1) n step same k j (omega arith) (omega arith)
+module _ {F : Type 0} {g : Mut F (ℕ × Unit {0}) ℕ} (h : ℕ → ℕ) where
+  made_at : (f : F) (ys : List ℕ) (i n : ℕ) → ((x y : ℕ) (q : F) → Called g f (x, tt) y q → (q ≡ f) × (y ≡ h x)) → IsFromFnResultFrom g f ys i n
+      → (k j : ℕ) → k < n → i + k ≡ j → get_or ys j 0 ≡ h j
+  made_at f ys i zero step r k j l e = absurd (omega arith)
+  made_at f ys i (suc n) step (q, y, place, called, rest) zero j l e =
+      let at : i ≡ j = omega arith in
+      rw (← at) (place.1 0 ∙ (step i y q called).1)
+  made_at f ys i (suc n) step (q, y, place, called, rest) (suc k) j l e =
+      let same = subst (λ (s : F). IsFromFnResultFrom g s ys (i + 1) n) (step i y q called).0 rest in
+      made_at f ys (i + 1) n step same k j (omega arith) (omega arith)
+
+  pub made : {f : F} {ys : List ℕ} {n : ℕ} → IsFromFnResult g f ys n → ((x y : ℕ) (q : F) → Called g f (x, tt) y q → (q ≡ f) × (y ≡ h x)) → ys ≡ map h (range_with_len 0 n)
+  made {f} {ys} {n} r step = fill_by_all h ys n 0 r.long (λ k l. made_at f ys 0 n step r.each k k l (omega arith))
 
 -- eight words, each read at its place
 
@@ -147,10 +154,13 @@ module _ (b : List ℕ) (i : ℕ) where
   unfolding words_at
   length_eight = refl
 
-  pub words_read : (ws : List ℕ) → length ws ≡ 8 → ((k : ℕ) → k < 8 → get_or ws k 0 ≡ word_at b (i + 2 * k)) → ws ≡ words_at b i
-  words_read ws l each =
-      fill_by_all (λ k. word_at b (i + 2 * k)) ws 8 0 l each
-      ∙ sym (fill_by_all (λ k. word_at b (i + 2 * k)) (words_at b i) 8 0 length_eight word_there)
+  pub words_read : words_at b i ≡ map (λ k. word_at b (i + 2 * k)) (range_with_len 0 8)
+  words_read = fill_by_all (λ k. word_at b (i + 2 * k)) (words_at b i) 8 0 length_eight word_there
+
+-- a value behind a test
+pub is_some_lem : {A : Type 0} (t : Bool) (x : A) → is_some (then_some t x) ≡ t
+is_some_lem true x = refl
+is_some_lem false x = refl
 
 -- two lists are compared
 
@@ -163,13 +173,13 @@ eq_list_lem (x ∷ xs) (y ∷ ys) = ap (λ (t : Bool). eqb x y && t) (eq_list_le
 
 -- parts put one after the other
 
-pub put_length : {o a e : List ℕ} {at : ℕ} → PutAt o at a e → at + length a ≤ length o → length e ≡ length o
+put_length : {o a e : List ℕ} {at : ℕ} → PutAt o at a e → at + length a ≤ length o → length e ≡ length o
 put_length {o} {a} {e} {at} p h = ap length p.put ∙ length-paste o at a (length a) h (omega arith)
 
 put_is : {o a e : List ℕ} {at : ℕ} → PutAt o at a e → e ≡ (take at o ++ a) ++ drop (at + length a) o
 put_is {o} {a} {e} {at} p = p.put ∙ rw (take_all (length a) a (omega arith))
 
-pub put_join : {o a b e₁ e₂ : List ℕ} {at next : ℕ} → PutAt o at a e₁ → PutAt e₁ next b e₂ → next ≡ at + length a → next ≤ length o → PutAt o at (a ++ b) e₂
+put_join : {o a b e₁ e₂ : List ℕ} {at next : ℕ} → PutAt o at a e₁ → PutAt e₁ next b e₂ → next ≡ at + length a → next ≤ length o → PutAt o at (a ++ b) e₂
 put_join {o} {a} {b} {e₁} {e₂} {at} {next} p q k h =
     let front : List ℕ = take at o ++ a in
     let long : length front ≡ next = length-append (take at o) a ∙ (rw (length-take-le at o (omega arith)) (sym k)) in
@@ -187,7 +197,7 @@ put_join {o} {a} {b} {e₁} {e₂} {at} {next} p q k h =
     drop_past xs ys n m l = rw (← l) (drop-append-add xs (drop (length xs) ys) m ∙ drop-drop m (length xs) ys)
 
 -- a part as long as the record is the record
-pub put_whole : {o a e : List ℕ} → PutAt o 0 a e → length a ≡ length o → e ≡ a
+put_whole : {o a e : List ℕ} → PutAt o 0 a e → length a ≡ length o → e ≡ a
 put_whole {o} {a} {e} p l = put_is p ∙ (ap (λ (r : List ℕ). a ++ r) (drop_of_length-le o {i = 0 + length a} (omega arith)) ∙ append-nil a)
 
 module _ {o e₁ e₂ e₃ e₄ : List ℕ} {f : Fields} (ws : List ℕ) (m : Model) (e : Engine) (h : History) (l : Lines) (state : word_bytes ws ≡ state_bytes f e h l) (k : f ≡ fields_of m) where

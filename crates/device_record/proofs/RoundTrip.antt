@@ -41,13 +41,6 @@ eq_list_true (x ∷ xs) (y ∷ ys) e =
     let t = eq_list_true xs ys (and_right (eqb x y) (eq_list xs ys) e) in
     rw (h, t)
 
-pub eq_list_length : (xs ys : List ℕ) → (length xs ≡ length ys → ⊥) → eq_list xs ys ≡ false
-eq_list_length xs ys h = go (eq_list xs ys) refl
-  where
-    go : (t : Bool) → eq_list xs ys ≡ t → eq_list xs ys ≡ false
-    go true e = absurd (h (ap length (eq_list_true xs ys e)))
-    go false e = e
-
 -- lengths
 
 pub length_state : (f : Fields) (e : Engine) (h : History) (l : Lines) → length (state_bytes f e h l) ≡ 32

@@ -201,7 +201,7 @@ pub(crate) fn decode_sound(bytes: &[u8]) -> Option<Device>
     encode(d, &mut again);
     let kept = again.as_slice() == bytes;
     let good = d.sound();
-    if kept & good { Some(d) } else { None }
+    (kept & good).then_some(d)
 }
 
 // Whether bytes are a sound record.

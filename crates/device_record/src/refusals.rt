@@ -12,7 +12,9 @@ pub enum Refusal {
     Access(AccessRefusal),
     Unsound,
     WrongLength,
+    // input and output of a run differ in length
     LinesDiffer,
+    // an input byte above 7
     BadInput,
     NoEdition,
 }

@@ -6,7 +6,9 @@ ghost use Rattle.device_record.specs.Run.{inputs_fit, stops_on, RunUntil};
 
 use frames::lines::Pins;
 use serial::Device;
-use serial::lost::Losses;
+
+// Those above name what was lost by this path.
+pub use serial::lost::Losses;
 
 // The offset of SR, and the place of BSY in it.
 const STATUS: u32 = 0x0C;

@@ -9,8 +9,7 @@ ghost use Rattle.pl022.specs.Results.{ReadResult, ran_numbers, RunResult, PairRe
 
 use device_record::calls::Edition;
 use device_record::refusals::Refusal;
-use device_record::run::{Ran, Stop};
-use serial::lost::Losses;
+use device_record::run::{Losses, Ran, Stop};
 
 // What a read answers.
 #[repr(C)]
@@ -92,7 +91,9 @@ pub struct PartResult {
 }
 
 // The refusal number of an answer, 0 if it is done.
-fn number<T: Copy, E: Copy + Into<u8>>(answer: Result<T, E>) -> u8
+fn number<T: Copy, E>(answer: Result<T, E>) -> u8
+where
+    E: Copy + Into<u8>,
     ensures { MatchResult answer (λ _. result ≡ 0) (λ e. E.converts e result) }
 {
     match answer {
