@@ -66,10 +66,12 @@ impl Rejection {
 fn enabled_with(cr0: u32, cpsr: u32) -> Device
     ensures { device_of result ≡ enabled_with false cr0 cpsr [] }
 {
-    let set = serial::access::write(serial::reset_device(false), CR0, cr0);
-    let divided = serial::access::write(set.device, CPSR, cpsr);
-    let on = serial::access::write(divided.device, CR1, ENABLED);
-    on.device
+    let mut device = Device::reset(false);
+    // What is refused shows in SSE, which is clear then.
+    let _ = device.write(CR0, cr0);
+    let _ = device.write(CPSR, cpsr);
+    let _ = device.write(CR1, ENABLED);
+    device
 }
 
 // Goes through a recording slot by slot, and puts its words into eight places. It answers how many there are.
@@ -114,13 +116,13 @@ pub fn judge(
     ensures { Judged cr0 cpsr recording.now words.old (verdict_of result) words.new }
 {
     let device = enabled_with(cr0, cpsr);
-    if !registers::settings::enabled(device.registers) {
+    if !device.registers.enabled() {
         return Err(Rejection::NotPermitted);
     }
     if MOST_CYCLES < recording.len() {
         return Err(Rejection::TooLong);
     }
-    let s = registers::settings::settings_of(device.registers);
+    let s = device.registers.settings();
     let mut found = [0; 8];
     let count = follow(s, recording, &mut found)?;
     *words = found;

@@ -7,7 +7,7 @@ ghost use Rattle.frames.specs.Lines.{byte_of};
 ghost use Rattle.serial.specs.Drawing.{low, idle};
 ghost use Rattle.judge.specs.Place.{motorola_table, ti_table, microwire_table, table_of, fss_weight, txd_weight, lead_byte, bit_byte, end_byte, wait_byte, room_for, place_by, last_bit, word_start, goes_on, entered, level_of, byte_at, after_bits, passed, over, step_of};
 
-use registers::bits::bit_at;
+use registers::bits::{bit_at, value_of};
 use registers::settings::{Format, Settings};
 
 // Line bytes with nSSPOE HIGH: alone, with FSS, with FSS and CLK.
@@ -84,26 +84,26 @@ fn low_byte(s: Settings, clk: bool) -> u8
     ensures { result ≡ byte_of (low s clk false) }
 {
     let driven = frames::lines::clock_on(s.format, s.polarity, clk);
-    frames::lines::value_of(driven, 1)
+    value_of(driven, 1)
 }
 
 // The byte of an idle slot.
 fn idle_byte(s: Settings) -> u8
     ensures { result ≡ byte_of (idle s) }
 {
-    frames::lines::byte_of(frames::lines::idle_on(s.format, s.polarity))
+    u8::from(frames::lines::idle_on(s.format, s.polarity))
 }
 
 fn fss_weight(fss: bool) -> u16
     ensures { result ≡ fss_weight fss }
 {
-    frames::lines::value_of(fss, 2) as u16
+    value_of(fss, 2)
 }
 
 fn txd_weight(txd: bool) -> u16
     ensures { result ≡ txd_weight txd }
 {
-    frames::lines::value_of(txd, 4) as u16
+    value_of(txd, 4)
 }
 
 // The byte of a slot of a bit: `base` has its clock, `more` sets FSS HIGH.

@@ -11,8 +11,8 @@ mod stopped;
 // Words lost to overrun.
 mod lost;
 
-use registers::access::Answer;
-use registers::transfer::Lost;
+use frames::lines::Pins;
+use registers::fields::Fields;
 use serial::Device;
 use std::io::{BufWriter, Write};
 use std::{fmt, io};
@@ -39,34 +39,22 @@ enum Edition {
 
 // A refused write changes nothing.
 fn write(d: &mut Device, offset: u32, value: u32) {
-    *d = serial::access::write(*d, offset, value).device;
+    let _ = d.write(offset, value);
 }
 
 // The oldest received word is taken out.
 fn read(d: &mut Device) -> Option<u16> {
-    let taken = serial::access::read(*d, DR);
-    *d = taken.device;
-    let answer = taken.answer;
-    match answer {
-        Answer::Word(w) => Some(w),
-        Answer::Refused(_) => None,
-    }
+    d.read(DR).ok()
 }
 
 // One cycle: the word that it loses.
 fn cycle(d: &mut Device, pins: u8) -> Option<u16> {
-    let cycled = serial::cycle::cycle_of(*d, frames::lines::pins_of(pins));
-    *d = cycled.device;
-    let lost = cycled.lost;
-    match lost {
-        Lost::Word(w) => Some(w),
-        Lost::Nothing => None,
-    }
+    d.cycle(Pins::from(pins))
 }
 
 // How many words are left to send.
 fn waiting(d: &Device) -> u8 {
-    registers::fields::fields_of(d.registers).waiting
+    Fields::from(d.registers).waiting
 }
 
 // The words to send, written to DR.
@@ -89,7 +77,7 @@ struct Setup<'a> {
 impl Setup<'_> {
     // A device from reset: CR0, CPSR, the words to send, CR1.
     fn device(self) -> Device {
-        let mut d = serial::reset_device(self.edition == Edition::Second);
+        let mut d = Device::reset(self.edition == Edition::Second);
         write(&mut d, CR0, self.cr0);
         write(&mut d, CPSR, self.cpsr);
         load(&mut d, self.words);
@@ -103,7 +91,7 @@ impl Setup<'_> {
 // A cycle, with its lines printed; a word that it loses is not shown. The pins are a digit in ASCII: 48 is a multiple of 8.
 fn put_cycle<W: Write>(out: &mut W, d: &mut Device, digit: u8) -> io::Result<()> {
     let _ = cycle(d, digit % 8);
-    write!(out, "{:X}", frames::lines::byte_of(d.lines))
+    write!(out, "{:X}", u8::from(d.lines))
 }
 
 // What a read of DR gave.

@@ -1,7 +1,6 @@
 // The commands of a case.
-use registers::access::Answer;
-use registers::transfer::Lost;
-use registers::{Registers, access, settings, transfer};
+use registers::Registers;
+use registers::refusals::Refusal;
 
 const CR0: u32 = 0x00;
 
@@ -11,8 +10,8 @@ const DR: u32 = 0x08;
 
 const CPSR: u32 = 0x10;
 
-// A word if the command gives one, or the number of a refusal.
-pub(crate) type Outcome = Result<Option<u32>, u8>;
+// A word if the command gives one, or a refusal.
+pub(crate) type Outcome = Result<Option<u32>, Refusal>;
 
 #[derive(Clone, Copy)]
 enum Command {
@@ -117,48 +116,17 @@ impl Command {
 // Running it ----------------------------------------------------------------------------------------------------------
 
 pub(crate) fn reset() -> Registers {
-    registers::reset_registers(false)
+    Registers::reset(false)
 }
 
-fn write(r: &mut Registers, offset: u32, value: u32) -> Result<(), u8> {
-    let active = settings::enabled(*r);
-    let out = access::write(*r, active, offset, value);
-    *r = out.registers;
-    let refusal = out.refusal;
-    if refusal == access::DONE {
-        Ok(())
-    } else {
-        Err(refusal)
-    }
-}
-
-fn read(r: &mut Registers, offset: u32, frame: bool) -> Result<u16, u8> {
-    let out = access::read(*r, offset, frame);
-    *r = out.registers;
-    let answer = out.answer;
-    match answer {
-        Answer::Word(w) => Ok(w),
-        Answer::Refused(n) => Err(n),
-    }
-}
-
-fn receive(r: &mut Registers, word: u16) -> Option<u16> {
-    let out = transfer::receive_word(*r, word);
-    *r = out.registers;
-    let lost = out.lost;
-    match lost {
-        Lost::Word(w) => Some(w),
-        Lost::Nothing => None,
-    }
-}
-
-fn end_cycle(r: &mut Registers, frame: bool) {
-    *r = transfer::end_cycle(*r, frame);
+fn write(r: &mut Registers, offset: u32, value: u32) -> Result<(), Refusal> {
+    let active = r.enabled();
+    r.write(active, offset, value)
 }
 
 fn take(r: &mut Registers) -> u16 {
-    let word = transfer::next_word(*r);
-    *r = transfer::take_word(*r);
+    let word = r.next_word();
+    r.take_word();
     word
 }
 
@@ -180,7 +148,7 @@ fn load(r: &mut Registers, words: u32) {
 fn arrive(r: &mut Registers, words: u16) -> Option<u16> {
     let mut lost = None;
     for word in 1..=words {
-        lost = receive(r, word);
+        lost = r.receive_word(word);
     }
     lost
 }
@@ -201,8 +169,8 @@ impl Command {
                 write(r, offset, value)?;
                 None
             }
-            Command::Read { offset } => Some(u32::from(read(r, offset, false)?)),
-            Command::Peek { offset } => Some(u32::from(read(r, offset, true)?)),
+            Command::Read { offset } => Some(u32::from(r.read(offset, false)?)),
+            Command::Peek { offset } => Some(u32::from(r.read(offset, true)?)),
             Command::Load { words } => {
                 load(r, words);
                 None
@@ -210,17 +178,17 @@ impl Command {
             Command::Arrive { words } => arrive(r, words).map(u32::from),
             Command::Cycles { count } => {
                 for _ in 0..count {
-                    end_cycle(r, false);
+                    r.end_cycle(false);
                 }
                 None
             }
             Command::Frame => {
-                end_cycle(r, true);
+                r.end_cycle(true);
                 None
             }
             Command::Take => Some(u32::from(take(r))),
-            Command::Divisor => Some(u32::from(settings::settings_of(*r).divisor.0)),
-            Command::Bits => Some(u32::from(settings::settings_of(*r).bits)),
+            Command::Divisor => Some(u32::from(r.settings().divisor.0)),
+            Command::Bits => Some(u32::from(r.settings().bits)),
             Command::Inspect { word, place } => {
                 Some(u32::from(registers::bits::bit_at(word, place)))
             }

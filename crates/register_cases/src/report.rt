@@ -11,7 +11,7 @@ impl fmt::Display for Shown {
         match self.0 {
             Ok(Some(word)) => write!(f, "{word:#x}"),
             Ok(None) => write!(f, "done"),
-            Err(refusal) => write!(f, "refused {refusal}"),
+            Err(refusal) => write!(f, "refused {}", u8::from(refusal)),
         }
     }
 }

@@ -3,4 +3,4 @@ use Rattle.judge.proofs.judge.enabled_with.Goals as goal
 
 pub returns : goal.returns
 unfolding enabled_with
-returns c = rw (c.write-on.ensures.device, c.write-divided.ensures.device, c.write-set.ensures.device, c.reset_device.ensures)
+returns c = rw (c.write-3.ensures.device, c.write-2.ensures.device, c.write.ensures.device, c.reset-device.ensures)
