@@ -13,7 +13,7 @@ returns-then-recording-gt-MOST_CYCLES c = judged_long _ _ _ _ (can_as _ _ _ c.en
 
 pub follow-requires : goal.follow-requires
 follow-requires c = record {
-  permitted = permitted_as _ _ _ (can_as _ _ _ c.enabled_with-device.ensures _ c.if-not-enabled.ensures) (settings_as _ _ _ c.enabled_with-device.ensures _ c.settings_of-s.ensures);
+  permitted = permitted_as _ _ _ (can_as _ _ _ c.enabled_with-device.ensures _ c.if-not-enabled.ensures) (settings_as _ _ _ c.enabled_with-device.ensures _ c.settings-s.ensures);
   empty = refl;
 }
 
@@ -22,9 +22,9 @@ returns-in_err-count c =
     let e : c.from_residual.result ≡ Err c.in_err-count.field-0.0 = search rules in
     subst (λ r. Judged c.args.cr0 c.args.cpsr c.args.recording.now c.args.words.now (verdict_of r) c.args.words.now) (sym e)
     (judged_rejected _ _ _ _ (can_as _ _ _ c.enabled_with-device.ensures _ c.if-not-enabled.ensures) c.if-recording-gt-MOST_CYCLES.false _
-    (settings_as _ _ _ c.enabled_with-device.ensures _ c.settings_of-s.ensures) _ _ c.in_err-count.ensures)
+    (settings_as _ _ _ c.enabled_with-device.ensures _ c.settings-s.ensures) _ _ c.in_err-count.ensures)
 
 pub returns : goal.returns
 returns c =
     judged_words _ _ _ [] (can_as _ _ _ c.enabled_with-device.ensures _ c.if-not-enabled.ensures) c.if-recording-gt-MOST_CYCLES.false _
-    (settings_as _ _ _ c.enabled_with-device.ensures _ c.settings_of-s.ensures) _ _ c.in_ok-count.ensures
+    (settings_as _ _ _ c.enabled_with-device.ensures _ c.settings-s.ensures) _ _ c.in_ok-count.ensures
