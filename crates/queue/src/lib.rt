@@ -79,9 +79,9 @@ impl Queue {
     {
         let mut clean = words;
         for (place, word) in clean.iter_mut().enumerate() {
-            if count <= place {
-                *word = 0;
-            }
+            // No branch, so that the loop can take all places at once.
+            let used = (place < count) as u16;
+            *word = word.wrapping_mul(used);
         }
         Queue {
             words: clean,

@@ -6,8 +6,8 @@ ghost use Rattle.registers.specs.Model.{model_of};
 ghost use Rattle.registers.specs.Choose.{words_of};
 ghost use Rattle.registers.specs.Transfer.{waiting_of, next_word, take_word, ReceiveWord, idles_of, LimitOf, timeout_of, end_cycle};
 
+use crate::Registers;
 use crate::time::{Cycles, Slots, cycles_of};
-use crate::{Registers, Timeout};
 
 // RT is set after 32 bit times, which are 64 slots.
 const TIMEOUT: Slots = Slots(64);
@@ -58,35 +58,21 @@ impl Registers {
         cycles_of(TIMEOUT, self.control.divisor())
     }
 
-    fn next_timeout(&self, frame: bool) -> Timeout
-        ensures { result ≡ timeout_of (model_of self.now) frame }
-    {
-        let rt = self.timeout.rt;
-        let counts = self.idles(frame);
-        if !counts {
-            return Timeout {
-                rt,
-                count: Cycles(0),
-            };
-        }
-        // No count of cycles that is below a limit is the largest one.
-        let next = self.timeout.count.0.saturating_add(1);
-        if self.limit().0 <= next {
-            return Timeout {
-                rt: true,
-                count: Cycles(0),
-            };
-        }
-        Timeout {
-            rt,
-            count: Cycles(next),
-        }
-    }
-
     // The timeout at the end of a cycle; `frame` says whether a frame is in progress then.
     pub fn end_cycle(&mut self, frame: bool)
         ensures { model_of self.new ≡ end_cycle (model_of self.old) frame }
     {
-        self.timeout = self.next_timeout(frame);
+        let counts = self.idles(frame);
+        if !counts {
+            self.timeout.count = Cycles(0);
+            return;
+        }
+        let next = self.timeout.count.0 as u64 + 1;
+        if self.limit().0 as u64 <= next {
+            self.timeout.rt = true;
+            self.timeout.count = Cycles(0);
+            return;
+        }
+        self.timeout.count = Cycles(next as u32);
     }
 }
