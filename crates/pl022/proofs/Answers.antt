@@ -1,6 +1,6 @@
 -- Each way out of a C call whose result is not just the answer of the crate below.
 use Prim.Native.Nat.{ℕ, ◌-◌, ◌≤◌, ◌<◌}
-use mathlib.Core.Path.{◌≡◌, refl, sym, ap, ◌∙◌, subst}
+use mathlib.Core.Path.{◌≡◌, sym, ap, ◌∙◌, subst}
 use mathlib.Core.Bool.{Bool}
 use mathlib.Core.List.{List}
 use lib.ListN.{length}
@@ -18,9 +18,8 @@ use Rattle.text.specs.Read.{ReadingNumbers, reading_numbers, ReadText}
 use Rattle.text.specs.declared.write.Written.{Written}
 use Rattle.text.specs.declared.read.Reading.{Reading}
 use Rattle.judge.specs.Shared.{difference}
-use Rattle.judge.specs.Judge.{Verdict, Judged, verdict_numbers}
 use Rattle.judge.proofs.Sharing.{start_second, start_first, part_second, part_first, is_second, is_first}
-use Rattle.pl022.specs.Results.{ReadResult, lost_numbers, RunResult, ran_numbers, PairResult, WriteTextResult, ReadTextResult, JudgeResult, DifferenceResult}
+use Rattle.pl022.specs.Results.{ReadResult, lost_numbers, RunResult, ran_numbers, PairResult, WriteTextResult, ReadTextResult, DifferenceResult}
 use Rattle.pl022.specs.declared.LostResult.{LostResult}
 use Rattle.pl022.specs.declared.RanResult.{RanResult}
 
@@ -79,12 +78,6 @@ text_read text cb sb a cb' sb' g b q =
       cycles_left = g.cycles;
       starts_left = g.starts;
     }
-
--- Each case of a verdict.
-pub verdict_numbers_lem : (cr0 cpsr : ℕ) (r ws : List ℕ) (v : Verdict) (ws' : List ℕ) → Judged cr0 cpsr r ws v ws' → (u : Verdict) → v ≡ u
-    → JudgeResult cr0 cpsr r ws (record { refusal = (verdict_numbers u).refusal; count = (verdict_numbers u).count }) ws'
-verdict_numbers_lem cr0 cpsr r ws v ws' k u e =
-    record { verdict = u; judged = subst (λ (x : Verdict). Judged cr0 cpsr r ws x ws') e k; refusal = refl; count = refl }
 
 -- The part of two recordings that was handed back.
 module _ (xs ys part : List ℕ) (e : part ≡ difference xs ys) where
