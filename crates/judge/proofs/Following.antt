@@ -7,7 +7,7 @@ use mathlib.Core.List.{List, [], ◌∷◌, ◌++◌, append_assoc}
 use native.Mathlib.Omega.{arith}
 use native.Mathlib.Numerals.{add-one}
 use lib.Dec.{ltb, eqb}
-use Rattle.std.specs.Prelude.{Option, Some, None}
+use Rattle.std.specs.Prelude.{Some, None}
 use lib.ListN.{length, drop, set, get_or, get_or-append, replicate, length-append, length-drop, length-set, length-replicate}
 use lib.Seq.{drop-cons, drop-append_seam, set-set, set_at}
 use Rattle.std.proofs.lemmas.List.{drop-drop}
@@ -24,7 +24,7 @@ use Rattle.judge.specs.declared.place.Stage.TheVariants.{Lead, First, Second, Wa
 use Rattle.judge.specs.declared.place.Place.{Place}
 use Rattle.judge.proofs.Rests.{Good}
 use Rattle.judge.proofs.Sharing.{shared_least, shared_most, shared_slot}
-use Rattle.judge.proofs.Way.{Next, next_of, step_made, step_none, done_after}
+use Rattle.judge.proofs.Way.{next_of, step_made, step_none, done_after}
 use Rattle.judge.proofs.Follow.{Recorded, Stops, Follows, follows_start, follows_on, stops_at, stops_within, ends_over, ends_early}
 use Rattle.judge.proofs.Verdicts.{recorded_given, stops_none}
 

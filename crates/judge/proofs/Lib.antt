@@ -1,7 +1,6 @@
 pub mod Sharing
 pub mod Preloaded
 mod Rests
-mod Steps
 mod Tables
 mod Way
 mod Ends

@@ -2,13 +2,11 @@
 use Prim.Native.Nat.{ℕ, zero, suc, min, ◌+◌, ◌-◌, ◌≤◌, ◌<◌}
 use mathlib.Core.Path.{◌≡◌, refl, sym, ap, ap₂, ◌∙◌}
 use mathlib.Core.Bool.{Bool, true, false, cond}
-use mathlib.Core.Logic.{◌⊎◌, inl, inr}
 use mathlib.Core.List.{List, [], ◌∷◌, ◌++◌}
 use native.Mathlib.Omega.{arith}
-use native.Mathlib.Numerals.{add-one}
 use lib.Dec.{eqb}
-use lib.ListN.{length, take, drop, get_or, length-drop, replicate, length-replicate, get_or-replicate, drop_of_length-le}
-use lib.Seq.{drop-cons, take_all}
+use lib.ListN.{length, take, drop, length-drop, replicate}
+use lib.Seq.{take_all}
 use borrow.Author.Tests.{eqb-true, eqb-false, eq-eqb, ne_eqb, lt-ltb, le-ltb}
 use Rattle.registers.specs.Choose.{pick}
 use Rattle.judge.specs.Shared.{shared, second_longer, longer, difference}
@@ -53,10 +51,6 @@ unfolding shared
 shared_none [] = refl
 shared_none (x ∷ xs) = refl
 
-shared_nil : (ys : List ℕ) → shared [] ys ≡ 0
-unfolding shared
-shared_nil ys = refl
-
 -- a common part before
 pub shared-append : (zs xs ys : List ℕ) → shared (zs ++ xs) (zs ++ ys) ≡ length zs + shared xs ys
 shared-append [] xs ys = omega arith
@@ -91,14 +85,18 @@ one_more true e = omega arith
 one_more false e = refl
 
 -- the pairs of equal cycles that come first
-prefix_zip : (xs ys : List ℕ) → prefix_len (λ p. eqb p.0 p.1) (zip xs ys) ≡ shared xs ys
+prefix_zip : (xs ys : List ℕ) (n : ℕ) → n ≡ min (length xs) (length ys) → prefix_len (λ p. eqb p.0 p.1) (zip (take n xs) (take n ys)) ≡ shared xs ys
 unfolding shared
-prefix_zip [] ys = refl
-prefix_zip (x ∷ xs) [] = refl
-prefix_zip (x ∷ xs) (y ∷ ys) = one_more (eqb x y) (prefix_zip xs ys)
+prefix_zip [] ys zero e = refl
+prefix_zip [] ys (suc n) e = absurd (omega arith)
+prefix_zip (x ∷ xs) [] zero e = refl
+prefix_zip (x ∷ xs) [] (suc n) e = absurd (omega arith)
+prefix_zip (x ∷ xs) (y ∷ ys) zero e = absurd (omega arith)
+prefix_zip (x ∷ xs) (y ∷ ys) (suc n) e = one_more (eqb x y) (prefix_zip xs ys n (omega arith))
 
-pub shared_zip : (xs ys : List ℕ) → length (take (prefix_len (λ p. eqb p.0 p.1) (zip xs ys)) (zip xs ys)) ≡ shared xs ys
-shared_zip xs ys = length-prefix_len (λ (p : ℕ × ℕ). eqb p.0 p.1) (zip xs ys) ∙ prefix_zip xs ys
+pub shared_zip : (xs ys : List ℕ) (n : ℕ) → n ≡ min (length xs) (length ys)
+    → length (take (prefix_len (λ p. eqb p.0 p.1) (zip (take n xs) (take n ys))) (zip (take n xs) (take n ys))) ≡ shared xs ys
+shared_zip xs ys n e = length-prefix_len (λ (p : ℕ × ℕ). eqb p.0 p.1) (zip (take n xs) (take n ys)) ∙ prefix_zip xs ys n e
 
 eqb_turned : (x y : ℕ) → eqb y x ≡ eqb x y
 eqb_turned x y = go (eqb x y) refl

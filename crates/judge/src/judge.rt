@@ -75,6 +75,7 @@ fn enabled_with(cr0: u32, cpsr: u32) -> Device
 }
 
 // Goes through a recording slot by slot, and puts its words into eight places. It answers how many there are.
+// Places with a count, not a vector: the rule of no heap, and C lends eight places to `judge`.
 fn follow(s: Settings, recording: &[u8], found: &mut [u16; 8]) -> Result<usize, Rejection>
     requires { Followable s found.old }
     ensures { Followed s recording.now (verdict_of result) found.new }

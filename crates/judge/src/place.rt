@@ -1,8 +1,5 @@
 // Going through a recording, slot by slot: the reader's place, which byte fits there, the next place.
-#![tactic(auto, unfolding(crate::specs::Place::room_for, crate::specs::Place::lead_byte, crate::specs::Place::bit_byte, crate::specs::Place::end_byte, crate::specs::Place::wait_byte, crate::specs::Place::word_start, crate::specs::Place::goes_on, crate::specs::Place::entered, crate::specs::Place::level_of, crate::specs::Place::byte_at, crate::specs::Place::after_bits, crate::specs::Place::passed, crate::specs::Place::over, crate::specs::Place::step_of, crate::specs::Place::motorola_table, crate::specs::Place::ti_table, crate::specs::Place::microwire_table, crate::specs::Place::table_of))]
-
 ghost use Rattle.std.specs.Prelude.{◌≡◌, false, ◌<◌};
-ghost use Rattle.registers.specs.Choose.{pick};
 ghost use Rattle.frames.specs.Lines.{byte_of};
 ghost use Rattle.serial.specs.Drawing.{low, idle};
 ghost use Rattle.judge.specs.Place.{motorola_table, ti_table, microwire_table, table_of, fss_weight, txd_weight, lead_byte, bit_byte, end_byte, wait_byte, room_for, place_by, last_bit, word_start, goes_on, entered, level_of, byte_at, after_bits, passed, over, step_of};
@@ -80,6 +77,7 @@ pub struct Place {
 }
 
 // The byte of a slot in a frame with TXD LOW; `clk` is CLK before SPO inverts it.
+#[tactic(auto, unfolding(frames::specs::Lines::byte_of))]
 fn low_byte(s: Settings, clk: bool) -> u8
     ensures { result ≡ byte_of (low s clk false) }
 {
@@ -107,6 +105,7 @@ fn txd_weight(txd: bool) -> u16
 }
 
 // The byte of a slot of a bit: `base` has its clock, `more` sets FSS HIGH.
+#[tactic(auto, unfolding(crate::specs::Place::bit_byte))]
 fn bit_byte(base: u8, more: bool, level: bool) -> u16
     ensures { result ≡ bit_byte base more level }
 {
@@ -134,6 +133,7 @@ impl Place {
     }
 
     // Whether another word may follow.
+    #[tactic(auto, unfolding(crate::specs::Place::room_for))]
     fn room_for(self) -> bool
         ensures { result ≡ room_for self }
     {
@@ -141,17 +141,24 @@ impl Place {
     }
 
     // The data level of a slot with byte x.
+    #[tactic(auto, unfolding(crate::specs::Place::level_of))]
     fn level_of(self, x: u8) -> bool
         ensures { result ≡ level_of self x }
     {
+        // Arms apart, not `_`: so each stage has its own way through a step. Joined, a recording at h 1 takes a fifth longer.
         match self.stage {
+            Stage::Lead => self.last_bit(),
             Stage::First => bit_at(x as u32, 2),
-            _ => self.last_bit(),
+            Stage::Second => self.last_bit(),
+            Stage::Wait => self.last_bit(),
+            Stage::Turn => self.last_bit(),
+            Stage::Close => self.last_bit(),
         }
     }
 }
 
 impl Table {
+    #[tactic(auto, unfolding(crate::specs::Place::motorola_table))]
     fn motorola(s: Settings) -> Table
         ensures { result ≡ motorola_table s }
     {
@@ -175,6 +182,7 @@ impl Table {
         }
     }
 
+    #[tactic(auto, unfolding(crate::specs::Place::ti_table, frames::specs::Lines::byte_of))]
     fn ti(s: Settings) -> Table
         ensures { result ≡ ti_table s }
     {
@@ -197,6 +205,7 @@ impl Table {
         }
     }
 
+    #[tactic(auto, unfolding(crate::specs::Place::microwire_table, frames::specs::Lines::byte_of))]
     fn microwire(s: Settings) -> Table
         requires { s.bits < 17 }
         ensures { result ≡ microwire_table s }
@@ -221,6 +230,7 @@ impl Table {
     }
 
     // The table for these settings; the reserved format is never enabled.
+    #[tactic(auto, unfolding(crate::specs::Place::table_of))]
     pub(crate) fn of(s: Settings) -> Table
         requires { s.bits < 17 }
         ensures { result ≡ table_of s }
@@ -232,6 +242,7 @@ impl Table {
         }
     }
 
+    #[tactic(auto, unfolding(crate::specs::Place::lead_byte))]
     fn lead_byte(self, n: u8) -> u16
         ensures { result ≡ lead_byte self n }
     {
@@ -242,6 +253,7 @@ impl Table {
         }
     }
 
+    #[tactic(auto, unfolding(crate::specs::Place::end_byte))]
     fn end_byte(self, level: bool, n: u8) -> u16
         ensures { result ≡ end_byte self level n }
     {
@@ -251,6 +263,7 @@ impl Table {
         self.idle as u16
     }
 
+    #[tactic(auto, unfolding(crate::specs::Place::wait_byte))]
     fn wait_byte(self, level: bool, n: u8) -> u16
         ensures { result ≡ wait_byte self level n }
     {
@@ -262,6 +275,7 @@ impl Table {
     }
 
     // The start of a word.
+    #[tactic(auto, unfolding(crate::specs::Place::word_start))]
     pub(crate) fn word_start(self, leads: u8, count: u8) -> Place
         ensures { result ≡ word_start self leads count }
     {
@@ -272,6 +286,7 @@ impl Table {
     }
 
     // Whether byte x begins another word.
+    #[tactic(auto, unfolding(crate::specs::Place::goes_on))]
     fn goes_on(self, p: Place, x: u8) -> bool
         ensures { result ≡ goes_on self p x }
     {
@@ -283,6 +298,7 @@ impl Table {
     }
 
     // The place of byte x, which comes after p.
+    #[tactic(auto, unfolding(crate::specs::Place::entered))]
     fn entered(self, p: Place, x: u8) -> Place
         requires { p.count < 8 }
         ensures { result ≡ entered self p x }
@@ -307,19 +323,23 @@ impl Table {
     }
 
     // The byte of a slot.
+    #[tactic(auto, unfolding(crate::specs::Place::byte_at))]
     fn byte_at(self, p: Place, level: bool) -> u16
         ensures { result ≡ byte_at self p level }
     {
+        // Turn and Close apart for the reason at `level_of`.
         match p.stage {
             Stage::Lead => self.lead_byte(p.left),
             Stage::First => bit_byte(self.first, p.more, level),
             Stage::Second => bit_byte(self.second, p.more, level),
             Stage::Wait => self.wait_byte(level, p.left),
-            Stage::Turn | Stage::Close => self.end_byte(level, p.left),
+            Stage::Turn => self.end_byte(level, p.left),
+            Stage::Close => self.end_byte(level, p.left),
         }
     }
 
     // The place after a word's last bit.
+    #[tactic(auto, unfolding(crate::specs::Place::after_bits))]
     fn after_bits(self, p: Place) -> Place
         ensures { result ≡ after_bits self p }
     {
@@ -334,27 +354,31 @@ impl Table {
     }
 
     // The place after a slot.
+    #[tactic(auto, unfolding(crate::specs::Place::passed))]
     fn passed(self, p: Place, level: bool) -> Place
         ensures { result ≡ passed self p level }
     {
+        let last = p.left == 1;
         let left = p.left.saturating_sub(1);
         match p.stage {
-            Stage::Lead if p.left == 1 => Place::at(Stage::First, self.width, 0, p.count),
+            Stage::Lead if last => Place::at(Stage::First, self.width, 0, p.count),
             Stage::Lead => Place::at(Stage::Lead, left, 0, p.count),
             Stage::First => Place {
                 stage: Stage::Second,
                 word: frames::bits::shifted_in(p.word, level),
                 ..p
             },
-            Stage::Second if p.left == 1 => self.after_bits(p),
+            Stage::Second if last => self.after_bits(p),
             Stage::Second => Place::at(Stage::First, left, p.word, p.count),
-            Stage::Wait if p.left == 1 => Place::at(Stage::Turn, 0, p.word, p.count),
-            Stage::Wait | Stage::Close => Place::at(p.stage, left, p.word, p.count),
+            Stage::Wait if last => Place::at(Stage::Turn, 0, p.word, p.count),
+            Stage::Wait => Place::at(Stage::Wait, left, p.word, p.count),
             Stage::Turn => p,
+            Stage::Close => Place::at(Stage::Close, left, p.word, p.count),
         }
     }
 
     // Whether a recording may end here.
+    #[tactic(auto, unfolding(crate::specs::Place::over))]
     pub(crate) fn over(self, p: Place) -> bool
         ensures { result ≡ over self p }
     {
@@ -366,6 +390,7 @@ impl Table {
     }
 
     // The place after byte x, if it fits the next slot.
+    #[tactic(auto, unfolding(crate::specs::Place::step_of))]
     pub(crate) fn step(self, p: Place, x: u8) -> Option<Place>
         requires { p.count < 8 }
         ensures { result ≡ step_of self p x }

@@ -13,9 +13,10 @@ pub(crate) fn same_run(cycles: &[u8], cycle: u8) -> usize
 fn shared(first: &[u8], second: &[u8]) -> usize
     ensures { result ≡ shared first.now second.now }
 {
-    first
+    let n = first.len().min(second.len());
+    first[..n]
         .iter()
-        .zip(second)
+        .zip(&second[..n])
         .take_while(|(x, y)| **x == **y)
         .count()
 }
