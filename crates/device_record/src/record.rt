@@ -14,7 +14,7 @@ use std::array;
 // How many bytes a record has.
 pub const RECORD_LENGTH: usize = 128;
 
-// A byte of the record; 0 after the end.
+// A byte of the record; 0 after the end. Bytes and place are no struct: each field is read once, at a place of its own.
 fn byte_at(bytes: &[u8], i: usize) -> u8
     ensures { result ≡ byte_at bytes.now i }
 {
@@ -122,7 +122,7 @@ fn history_at(bytes: &[u8]) -> History
     }
 }
 
-// The device that bytes encode; a byte after the end counts as 0.
+// The device that bytes encode; a byte after the end counts as 0. Not a From: any slice is taken, not only a record.
 pub fn decode(bytes: &[u8]) -> Device
     ensures { device_of result ≡ decode bytes.now }
 {
@@ -169,6 +169,7 @@ fn put_words(bytes: &mut [u8], at: usize, words: &[u16])
     requires { at + 2 * length words.now ≤ length bytes.old }
     ensures { PutAt bytes.old at (word_bytes words.now) bytes.new }
 {
+    // By index: each word fills two bytes.
     for (i, word) in words.iter().enumerate() {
         let [low, high] = word.to_le_bytes();
         bytes[at + 2 * i] = low;
@@ -176,7 +177,7 @@ fn put_words(bytes: &mut [u8], at: usize, words: &[u16])
     }
 }
 
-// Writes a device into a record; bytes of another length stay.
+// Writes a device into a record; bytes of another length stay. Not a From: it fills bytes that are lent.
 pub fn encode(d: Device, bytes: &mut [u8])
     ensures { bytes.new ≡ encode (device_of d) bytes.old }
 {

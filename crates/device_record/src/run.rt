@@ -38,7 +38,7 @@ pub struct Ran {
 pub fn inputs_fit(input: &[u8]) -> bool
     ensures { result ≡ inputs_fit input.now }
 {
-    // no early exit, so that the loop can take many bytes at once
+    // Not `all`: with no early exit the loop takes many bytes at once. text has such a test for 15; the two share no crate.
     input
         .iter()
         .fold(true, |fit, byte| fit & (*byte <= HIGHEST_INPUT))
@@ -71,6 +71,7 @@ pub fn run_until(stop: Stop, device: &mut Device, input: &[u8], output: &mut [u8
     if input.len() != output.len() {
         return Ran { count: 0, lost };
     }
+    // Output by index: of what is written through an adapter of `iter_mut` a proof learns nothing.
     for (i, byte) in input.iter().enumerate() {
         if stops_on(stop, *device) {
             return Ran { count: i, lost };

@@ -1,4 +1,4 @@
-// The lines that a device drives, and the bytes of lines and pins.
+// The lines that a device drives, and the bytes of lines and pins. Settings and engine stay two parameters, as in `master`.
 #![tactic(auto, unfolding(crate::specs::Lines::pins_of, crate::specs::Lines::pin_byte, crate::specs::Lines::byte_of, crate::specs::Lines::lines_from, crate::specs::Lines::frame_lines, crate::specs::Lines::master_txd, crate::specs::Lines::master_lines, crate::specs::Lines::slave_lines, crate::specs::Lines::lines_of))]
 
 ghost use Rattle.std.specs.Prelude.{◌≡◌};

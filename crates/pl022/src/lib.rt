@@ -1,5 +1,5 @@
 // The calls for C, which include/pl022.h describes. Each passes its arguments to a crate below and returns its answer.
-// No rule of the device, of texts or of the judge is in this crate.
+// No rule of the device, of texts or of the judge is in this crate. Its structs are those of C, so refusals are numbers here.
 #![tactic(auto)]
 
 ghost use Rattle.std.specs.Prelude.{◌≡◌, MatchResult};

@@ -62,7 +62,7 @@ impl Queue {
         Some(oldest)
     }
 
-    // The word at a place, counted from the oldest; 0 after the last.
+    // The word at a place, counted from the oldest; 0 after the last. Not an Option: a record keeps 0 in unused places.
     pub fn word_at(&self, place: usize) -> u16
         ensures { result ≡ word_at (contents self.now) place }
     {

@@ -20,7 +20,7 @@ impl Registers {
         self.enabled() & (self.tx.count() != 0)
     }
 
-    // The oldest word in the transmit queue; 0 if there is none.
+    // The oldest word in the transmit queue; 0 if there is none. Not an Option: with no word to take, zeros are sent.
     pub fn next_word(&self) -> u16
         ensures { result ≡ next_word (model_of self.now) }
     {

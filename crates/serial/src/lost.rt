@@ -2,7 +2,7 @@
 ghost use Rattle.std.specs.Prelude.{◌≡◌};
 ghost use Rattle.serial.specs.Lost.{none_lost, noted};
 
-// How many words were lost, and the last of them, 0 if none.
+// How many words were lost, and the last of them, 0 if none. No Option for the last: C gets both numbers as they are.
 #[derive(Clone, Copy)]
 pub struct Losses {
     pub count: u64,

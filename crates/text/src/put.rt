@@ -14,6 +14,7 @@ pub(crate) fn put_mapped<F: Fn(u8) -> u8>(
     requires room { at + length bytes.now ≤ length buffer.old }
     ensures { (f : ℕ → ℕ) → Computes (F.post of) f → Put buffer.old at (map f bytes.now) result buffer.new }
 {
+    // By index: of what is written through an adapter of `iter_mut` a proof learns nothing.
     for (i, byte) in bytes.iter().enumerate() {
         buffer[at + i] = of(*byte);
     }

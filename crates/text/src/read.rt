@@ -73,6 +73,7 @@ fn fill(text: &[u8], cycles: &mut [u8], starts: &mut [u32])
     ensures { Fill text.now cycles.old starts.old cycles.new starts.new }
 {
     let mut n: usize = 0;
+    // Lines are counted by hand: of what is written through an adapter of `iter_mut` a proof learns nothing.
     let mut m: usize = 0;
     let mut rest = text;
     while let Some(end) = feed_place(rest) {
