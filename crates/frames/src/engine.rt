@@ -2,7 +2,7 @@
 #![tactic(auto, unfolding(crate::specs::Engine::started, crate::specs::Engine::driven, crate::specs::Engine::captured_of, crate::specs::Engine::completes, crate::specs::Engine::capture_step))]
 
 ghost use Rattle.std.specs.Prelude.{◌≡◌};
-ghost use Rattle.frames.specs.Engine.{active_of, clear_shift, cleared, while_active, with_shift, with_frame, with_slot, offered, loaded, started, driven, quieted, captured_of, completes, no_word, begun_if, begun, capture_step};
+ghost use Rattle.frames.specs.Engine.{active_of, clear_shift, cleared, while_active, with_shift, with_frame, with_slot, with_elapsed, with_selected, offered, loaded, started, driven, quieted, captured_of, completes, no_word, begun_if, begun, capture_step};
 
 use crate::bits::{bit_of, cut, shifted_in};
 use registers::settings::Settings;
@@ -73,38 +73,30 @@ impl Shift {
     }
 
     // Bit i of the word being sent goes on TXD.
-    pub fn driven(self, width: u16, i: u16) -> Shift
+    pub fn driven(mut self, width: u16, i: u16) -> Shift
         ensures { result ≡ driven width i self }
     {
-        Shift {
-            level: bit_of(width, self.sending, i),
-            ..self
-        }
+        self.level = bit_of(width, self.sending, i);
+        self
     }
 
     // TXD goes LOW.
-    pub fn quieted(self) -> Shift
+    pub fn quieted(mut self) -> Shift
         ensures { result ≡ quieted self }
     {
-        Shift {
-            level: false,
-            ..self
-        }
+        self.level = false;
+        self
     }
 
     // A bit is captured, unless the word has all its bits already.
-    pub fn captured(self, width: u8, bit: bool) -> Shift
+    pub fn captured(mut self, width: u8, bit: bool) -> Shift
         ensures { result ≡ captured_of width bit self }
     {
         if self.captured < width {
-            Shift {
-                captured: self.captured + 1,
-                receiving: shifted_in(self.receiving, bit),
-                ..self
-            }
-        } else {
-            self
+            self.captured += 1;
+            self.receiving = shifted_in(self.receiving, bit);
         }
+        self
     }
 
     // Whether the next capture completes the word.
@@ -149,26 +141,40 @@ impl Engine {
         }
     }
 
-    pub fn with_shift(self, shift: Shift) -> Engine
+    pub fn with_shift(mut self, shift: Shift) -> Engine
         ensures { result ≡ with_shift self shift }
     {
-        Engine { shift, ..self }
+        self.shift = shift;
+        self
     }
 
-    pub fn with_frame(self, frame: bool, shift: Shift) -> Engine
+    pub fn with_frame(mut self, frame: bool, shift: Shift) -> Engine
         ensures { result ≡ with_frame self frame shift }
     {
-        Engine {
-            frame,
-            shift,
-            ..self
-        }
+        self.frame = frame;
+        self.shift = shift;
+        self
     }
 
-    pub fn with_slot(self, slot: Slots) -> Engine
+    pub fn with_slot(mut self, slot: Slots) -> Engine
         ensures { result ≡ with_slot self slot }
     {
-        Engine { slot, ..self }
+        self.slot = slot;
+        self
+    }
+
+    pub(crate) fn with_elapsed(mut self, elapsed: Cycles) -> Engine
+        ensures { result ≡ with_elapsed self elapsed }
+    {
+        self.elapsed = elapsed;
+        self
+    }
+
+    pub fn with_selected(mut self, selected: bool) -> Engine
+        ensures { result ≡ with_selected self selected }
+    {
+        self.selected = selected;
+        self
     }
 }
 

@@ -13,14 +13,12 @@ use registers::settings::Settings;
 use registers::time::{Cycles, Slots};
 
 // TI's joined word: the old word's last bit stays on TXD, its last capture is still to come.
-fn joined_shift(width: u16, i: u16, next: u16, shift: Shift) -> Shift
+fn joined_shift(width: u16, i: u16, next: u16, mut shift: Shift) -> Shift
     ensures { result ≡ joined_shift width i next shift }
 {
-    Shift {
-        level: bit_of(width, shift.sending, i),
-        sending: next,
-        ..shift
-    }
+    shift.level = bit_of(width, shift.sending, i);
+    shift.sending = next;
+    shift
 }
 
 fn drive_step(s: Settings, e: Engine, i: u16) -> Step
@@ -124,16 +122,9 @@ fn ticked(s: Settings, e: Engine) -> Engine
 {
     let elapsed = e.elapsed.0 as u64 + 1;
     if elapsed < s.divisor.0 as u64 {
-        Engine {
-            elapsed: Cycles(elapsed as u32),
-            ..e
-        }
+        e.with_elapsed(Cycles(elapsed as u32))
     } else if e.slot.0 < last_slot(s).0 {
-        Engine {
-            slot: Slots(e.slot.0 + 1),
-            elapsed: Cycles(0),
-            ..e
-        }
+        e.with_slot(Slots(e.slot.0 + 1)).with_elapsed(Cycles(0))
     } else {
         Engine::cleared()
     }

@@ -85,10 +85,7 @@ fn slave_drive(s: Settings, e: Engine) -> Step
 fn selected_of(e: Engine) -> Engine
     ensures { result ≡ selected_of e }
 {
-    Engine {
-        selected: true,
-        ..e.with_frame(false, Shift::clear())
-    }
+    e.with_frame(false, Shift::clear()).with_selected(true)
 }
 
 // A fall of FSS selects the slave; with SPH 0 it takes a word at once.
@@ -126,13 +123,11 @@ fn motorola_clock(
     }
 }
 
-fn after_taking(took: bool, r: Step) -> Step
+fn after_taking(took: bool, mut r: Step) -> Step
     ensures { result ≡ after_taking took r }
 {
-    Step {
-        takes: took | r.takes,
-        ..r
-    }
+    r.takes |= took;
+    r
 }
 
 // Edges of CLK count only while selected.
@@ -160,10 +155,11 @@ fn motorola_slave(s: Settings, e: Engine, seen: Seen, next: u16) -> Step
     }
 }
 
-fn with_mark(e: Engine, mark: bool) -> Engine
+fn with_mark(mut e: Engine, mark: bool) -> Engine
     ensures { result ≡ with_mark e mark }
 {
-    Engine { mark, ..e }
+    e.mark = mark;
+    e
 }
 
 // In a word a fall of CLK captures a bit. With FSS HIGH it marks a start; before the last bit this drops the part word.
@@ -210,10 +206,7 @@ fn ti_slave(s: Settings, e: Engine, seen: Seen, next: u16) -> Step
 fn ready() -> Engine
     ensures { result ≡ ready }
 {
-    Engine {
-        selected: true,
-        ..Engine::cleared()
-    }
+    Engine::cleared().with_selected(true)
 }
 
 // A fall of FSS selects the slave.
