@@ -36,9 +36,6 @@ pub enum Rejection {
 
 // Its number; a refused register write has the same 6.
 impl From<Rejection> for u8 {
-    ghost use Rattle.std.specs.Prelude.{◌≡◌};
-    ghost use Rattle.judge.specs.Judge.{rejected, verdict_numbers};
-
     ghost from_gives = { λ r n. n ≡ (verdict_numbers (rejected r)).refusal };
 
     fn from(rejection: Rejection) -> u8 {
