@@ -1,5 +1,5 @@
 // A device as a record of 128 bytes: the bytes, runs over line bytes, and the calls on records that C programs use.
-// Every public function takes any value of its parameters; contracts cite the definitions of specs/ by the same names.
+// Every public function takes any value of its parameters; contracts cite the definitions of specs/, mostly by the same names.
 #![tactic(auto)]
 
 // What a call is refused with.

@@ -1,5 +1,5 @@
 // The frames of the PL022: slot tables, shift registers, lines, and what a master does in each slot. No register file.
-// Every function takes any value of its parameters; contracts cite the definitions of specs/ by the same names.
+// Every function takes any value of its parameters; contracts cite the definitions of specs/, mostly by the same names.
 #![tactic(auto)]
 
 // Bits of a word.

@@ -1,5 +1,5 @@
 // Judges recordings: whether a PL022 master gives one, and with which words. It also finds the difference of two recordings.
-// Every public function takes any value of its parameters; contracts cite the definitions of specs/ by the same names.
+// Every public function takes any value of its parameters; contracts cite the definitions of specs/, mostly by the same names.
 #![tactic(auto)]
 
 // How many leading cycles two recordings share, and their difference.

@@ -1,5 +1,5 @@
 // The serial engine of the PL022 with its register file: a device as a value, one cycle at a time.
-// Every function takes any value of its parameters; contracts cite the definitions of specs/ by the same names.
+// Every function takes any value of its parameters; contracts cite the definitions of specs/, mostly by the same names.
 #![tactic(auto)]
 
 ghost use Rattle.std.specs.Prelude.{◌≡◌};

@@ -18,7 +18,7 @@ impl Losses {
         Losses { count: 0, last: 0 }
     }
 
-    // The losses so far with those of one more cycle.
+    // Counts the word that one more cycle lost, if there is one.
     pub fn note(&mut self, lost: Option<u16>)
         ensures { self.new ≡ noted self.old lost }
     {

@@ -8,7 +8,7 @@ use Rattle.text.specs.Text.{line_feed, most_cycles, character_of, is_digit, over
 use Rattle.text.specs.declared.characters.Character.{Character}
 use Rattle.text.specs.declared.characters.Character.TheVariants.{Digit, LineFeed, Other}
 use Rattle.text.specs.declared.refusals.Refusal.{Refusal}
-use Rattle.text.specs.declared.read.Recording.{Recording as Counts}
+use Rattle.text.specs.declared.read.Counts.{Counts}
 
 -- At one character -----------------------------------------------------------------------------------------------------
 -- n cycles come before it; `begun` says whether its line has a digit already.

@@ -1,5 +1,5 @@
 // Recordings as text: one line per frame, one capital hexadecimal digit per cycle, a line feed at the end of each line.
-// Every public function takes any value of its parameters; contracts cite the definitions of specs/ by the same names.
+// Every public function takes any value of its parameters; contracts cite the definitions of specs/, mostly by the same names.
 #![tactic(auto)]
 
 // Refusals and their numbers.

@@ -10,7 +10,7 @@ use crate::refusals::{MOST_CYCLES, Refusal};
 
 // How many cycles and line starts a text has.
 #[derive(Clone, Copy, Debug, PartialEq, Eq)]
-pub struct Recording {
+pub struct Counts {
     pub cycles: usize,
     pub starts: usize,
 }
@@ -46,7 +46,7 @@ fn feed_place(bytes: &[u8]) -> Option<usize>
 }
 
 // Checks a text line by line, up to the character that decides.
-fn check(text: &[u8]) -> Result<Recording, Refusal>
+fn check(text: &[u8]) -> Result<Counts, Refusal>
     ensures { Check text.now (reading_numbers (reading_of result)) }
 {
     let mut cycles: usize = 0;
@@ -64,7 +64,7 @@ fn check(text: &[u8]) -> Result<Recording, Refusal>
         starts += 1;
         rest = &rest[run + 1..];
     }
-    Ok(Recording { cycles, starts })
+    Ok(Counts { cycles, starts })
 }
 
 // Writes the cycles and line starts of an accepted text, line by line, into buffers that are long enough.
@@ -85,7 +85,7 @@ fn fill(text: &[u8], cycles: &mut [u8], starts: &mut [u32])
 }
 
 // Reads a text: its cycles go to one buffer, its line starts, the number of the first cycle of each line, to the other.
-pub fn read_text(text: &[u8], cycles: &mut [u8], starts: &mut [u32]) -> Result<Recording, Refusal>
+pub fn read_text(text: &[u8], cycles: &mut [u8], starts: &mut [u32]) -> Result<Counts, Refusal>
     ensures { ReadText text.now cycles.old starts.old (reading_of result) cycles.new starts.new }
 {
     let found = check(text)?;
