@@ -115,6 +115,7 @@ pub record RunAnswer : Type 0 where
   pub count : ℕ
   pub lost : Losses
 
+-- A run's result as these three: a refused one has its number and zeros.
 abbrev pub run_answer : Result Ran Refusal → RunAnswer
 run_answer (Ok r) = record { refusal = done; count = r.count; lost = r.lost }
 run_answer (Err refusal) = record { refusal = number refusal; count = 0; lost = none_lost }
@@ -176,6 +177,7 @@ pub record PairAnswer : Type 0 where
   pub first : Losses
   pub second : Losses
 
+-- A pair run's result as these three: a refused one has its number and zeros.
 abbrev pub pair_answer : Result PairLosses Refusal → PairAnswer
 pair_answer (Ok lost) = record { refusal = done; first = lost.first; second = lost.second }
 pair_answer (Err refusal) = record { refusal = number refusal; first = none_lost; second = none_lost }

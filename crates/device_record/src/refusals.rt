@@ -23,7 +23,7 @@ impl From<AccessRefusal> for Refusal {
     ghost from_gives = { λ access refusal. refusal ≡ Access access };
 
     fn from(access: AccessRefusal) -> Refusal {
-        Refusal::Access(access)
+        Self::Access(access)
     }
 }
 

@@ -203,6 +203,11 @@ count_starts : (t : Bool) (ps : List ℕ) → length (pick t (0 ∷ ps) ps) ≡ 
 count_starts true ps = omega arith
 count_starts false ps = omega arith
 
+-- Too many cycles are refused first.
+pub refused_long : (cs ps : List ℕ) → most_cycles < length cs → 13 ≡ recording_refusal cs ps
+unfolding recording_refusal
+refused_long cs ps h = rw (lt-ltb most_cycles (length cs) h)
+
 module _ (cs ps buffer : List ℕ) (r : ℕ) (e : r ≡ recording_refusal cs ps) where
   pub write_refused : (r ≡ done → ⊥) → r ≡ write_refusal cs ps buffer
   unfolding write_refusal
