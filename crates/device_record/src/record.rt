@@ -14,7 +14,8 @@ use std::array;
 // How many bytes a record has.
 pub const RECORD_LENGTH: usize = 128;
 
-// A byte of the record; 0 after the end. Bytes and place are no struct: each field is read once, at a place of its own.
+// A byte of the record; 0 after the end, no Option: `decode` takes any slice. Bytes and place are no struct: each field is
+// read once, at a place of its own.
 fn byte_at(bytes: &[u8], i: usize) -> u8
     ensures { result ≡ byte_at bytes.now i }
 {
@@ -122,7 +123,7 @@ fn history_at(bytes: &[u8]) -> History
     }
 }
 
-// The device that bytes encode; a byte after the end counts as 0. Not a From: any slice is taken, not only a record.
+// The device that bytes encode; a byte after the end counts as 0. Not a From: neither type is of this crate.
 pub fn decode(bytes: &[u8]) -> Device
     ensures { device_of result ≡ decode bytes.now }
 {
@@ -177,7 +178,7 @@ fn put_words(bytes: &mut [u8], at: usize, words: &[u16])
     }
 }
 
-// Writes a device into a record; bytes of another length stay. Not a From: it fills bytes that are lent.
+// Writes a device into a record; bytes of another length stay. Not a From: it fills lent bytes.
 pub fn encode(d: Device, bytes: &mut [u8])
     ensures { bytes.new ≡ encode (device_of d) bytes.old }
 {

@@ -10,7 +10,7 @@ use serial::Device;
 // Those above name what was lost by this path.
 pub use serial::lost::Losses;
 
-// The offset of SR, and the place of BSY in it.
+// The offset of SR, and the place of BSY in it; registers keeps no constants for offsets.
 const STATUS: u32 = 0x0C;
 
 const BUSY: u32 = 4;
@@ -18,7 +18,8 @@ const BUSY: u32 = 4;
 // An input byte is at most this.
 const HIGHEST_INPUT: u8 = 7;
 
-// When a run stops before its input ends. Not a closure: RunCall and the theorems about runs name these two rules.
+// When a run stops before its input ends. Not a closure: `RunCall` and the theorems about runs name these two rules, and nothing
+// else calls `run_until`.
 #[derive(Clone, Copy, Debug, PartialEq, Eq)]
 pub enum Stop {
     // never
@@ -71,7 +72,7 @@ pub fn run_until(stop: Stop, device: &mut Device, input: &[u8], output: &mut [u8
     if input.len() != output.len() {
         return Ran { count: 0, lost };
     }
-    // Output by index: of what is written through an adapter of `iter_mut` a proof learns nothing.
+    // Output by index: of what is written through a `zip` a proof learns nothing.
     for (i, byte) in input.iter().enumerate() {
         if stops_on(stop, *device) {
             return Ran { count: i, lost };

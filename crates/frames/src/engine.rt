@@ -107,6 +107,7 @@ impl Shift {
     }
 }
 
+// Copies with one field changed take `mut self`: with `..self` a cycle took 2 to 6 percent longer.
 impl Engine {
     // A clear engine.
     pub fn cleared() -> Engine

@@ -1,5 +1,6 @@
 // What a master does in a cycle.
-// Settings and engine stay two parameters: a step makes a new engine and never new settings, so a struct of both is no plainer.
+// Settings and engine stay two parameters: a step makes a new engine and never new settings. A struct of both, or a method of
+// either, would name both all the same.
 #![tactic(auto, unfolding(crate::specs::Master::joined_shift, crate::specs::Master::resting, crate::specs::Master::acting, crate::specs::Master::data_bit, crate::specs::Master::master_step, crate::specs::Master::ticked, crate::specs::Master::master_end))]
 
 ghost use Rattle.std.specs.Prelude.{◌≡◌};
@@ -27,6 +28,7 @@ fn drive_step(s: Settings, e: Engine, i: u16) -> Step
     Step::no_word(e.with_shift(e.shift.driven(width_of(s), i)))
 }
 
+// `waiting` and `next` go on from `act` as they came.
 fn chain_step(s: Settings, e: Engine, waiting: bool, next: u16, slot: Slots) -> Step
     ensures { result ≡ chain_step s e waiting next slot }
 {

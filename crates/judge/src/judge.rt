@@ -48,7 +48,7 @@ impl From<Rejection> for u8 {
 }
 
 impl Rejection {
-    // The number of leading cycles; 0 of a recording that is not judged.
+    // The number of leading cycles; 0 of a recording that is not judged. Not an Option: C gets the 0.
     pub fn leading(self) -> usize
         ensures { result ≡ (verdict_numbers (rejected self)).count }
     {

@@ -92,6 +92,7 @@ fn idle_byte(s: Settings) -> u8
     u8::from(frames::lines::idle_on(s.format, s.polarity))
 }
 
+// Both weights have names of their own in the definitions.
 fn fss_weight(fss: bool) -> u16
     ensures { result ≡ fss_weight fss }
 {

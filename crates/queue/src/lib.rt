@@ -9,7 +9,8 @@ ghost use Rattle.queue.specs.Fifo.{contents, word_at, Empty, Count, Add, TakeOld
 pub const PLACES: usize = 8;
 
 // The oldest word is at index 0.
-// An array and a count, not a Vec: no heap, and a device is a plain value that is copied.
+// An array and a count, not a Vec: no heap, and a device is a plain value that is copied. That unused places are zero stands in
+// contracts (`Clean`), not in the type: docs/PROOFS.md names them.
 #[derive(Clone, Copy)]
 pub struct Queue {
     words: [u16; 8],
@@ -79,7 +80,7 @@ impl Queue {
     {
         let mut clean = words;
         for (place, word) in clean.iter_mut().enumerate() {
-            // No branch, so that the loop can take all places at once.
+            // No branch, so that the loop can take all places at once; a `fill` of the others is slower.
             let used = (place < count) as u16;
             *word = word.wrapping_mul(used);
         }

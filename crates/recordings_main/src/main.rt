@@ -28,7 +28,7 @@ const CPSR: u32 = 0x10;
 // In CR1; alone it is an enabled master.
 const SSE: u32 = 0x2;
 
-// The edition that a port follows.
+// The edition that a port follows. device_record has such a type, but this program does not see it.
 #[derive(Clone, Copy, Debug, PartialEq, Eq)]
 enum Edition {
     First = 1,

@@ -34,6 +34,7 @@ impl Registers {
         }
     }
 
+    // The word that is read. Not one Result with `read_refusal`: the definition gives a word, 0, for a refused read too.
     fn read_word(&self, frame: bool, register: Register) -> u16
         ensures { result ≡ read_word (model_of self.now) frame register }
     {

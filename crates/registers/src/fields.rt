@@ -10,7 +10,7 @@ use crate::{Control, Masks, Registers, Timeout};
 use queue::Queue;
 
 // The registers, and each queue as its eight places, oldest word first, with a count.
-// Arrays with a count beside them, not slices: these are the fields of the record that C lends.
+// Arrays with a count beside them: `fields_of` and `restored`, by which a record keeps its layout, have them so.
 #[derive(Clone, Copy)]
 pub struct Fields {
     pub control: Control,

@@ -52,7 +52,7 @@ impl From<u32> for Register {
     }
 }
 
-// The word of an identity register by its index; 0 after the eighth.
+// The word of an identity register by its index; 0 after the eighth. Not an Option: the definition gives 0 there.
 pub fn identity_of(index: usize) -> u8
     ensures { result ≡ identity_of index }
 {

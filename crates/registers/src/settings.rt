@@ -49,6 +49,7 @@ pub fn permitted_of(cr0: u32) -> bool
 }
 
 impl Control {
+    // FRF. Not a From: the other bits of CR0 say nothing of the format.
     fn format(&self) -> Format
         ensures { result ≡ format_of self.now.cr0 }
     {

@@ -1,4 +1,5 @@
 // Lengths in cycles, lengths in slots and h are three types, so that none is taken for another.
+// Their numbers are compared, as the definitions do (`count_sound`, `timeout_of`, `ticked`, `running_sound`): no order is derived.
 #![tactic(auto, unfolding(crate::specs::Time::cycles_of))]
 
 ghost use Rattle.std.specs.Prelude.{◌≡◌};

@@ -33,6 +33,10 @@ unfoldable pub motorola_select : Settings → Engine → Bool → ℕ → Step
 motorola_select s e fell next =
     pick fell (pick s.phase (no_word (selected_of e)) (slave_take s (selected_of e) s.enabled next)) (no_word e)
 
+-- CLK leaves a level.
+abbrev pub clock_leaves : Bool → Pins → Pins → Bool
+clock_leaves level before seen = not (differ before.clk level) && differ seen.clk level
+
 -- The clock edge from the idle level, SPO, to the active one.
 abbrev pub to_active : Settings → Pins → Pins → Bool
 to_active s before seen = not (differ before.clk s.polarity) && differ seen.clk s.polarity

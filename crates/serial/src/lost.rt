@@ -2,7 +2,7 @@
 ghost use Rattle.std.specs.Prelude.{◌≡◌};
 ghost use Rattle.serial.specs.Lost.{none_lost, noted};
 
-// How many words were lost, and the last of them, 0 if none. No Option for the last: C gets both numbers as they are.
+// How many words were lost, and the last of them, 0 if none. No Option for the last: `losses_of` gives 0 there.
 #[derive(Clone, Copy)]
 pub struct Losses {
     pub count: u64,

@@ -21,7 +21,7 @@ pub struct PairLosses {
     pub second: Losses,
 }
 
-// What the other device's pins read; a released TXD reads LOW.
+// What the other device's pins read; a released TXD reads LOW. Not a From: both types are of frames.
 pub fn wire(l: Lines) -> Pins
     ensures { result ≡ wire l }
 {

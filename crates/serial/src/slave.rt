@@ -1,9 +1,9 @@
 // What a slave does in a cycle. It sees each pin as it was two cycles ago; an edge is a difference from the cycle before that.
-// Settings and engine stay two parameters: a step makes a new engine and never new settings, so a struct of both is no plainer.
+// Settings and engine stay two parameters, as in `frames::master`; `next` comes from the registers and is no part of what is seen.
 #![tactic(auto, unfolding(crate::specs::Slave::motorola_select, crate::specs::Slave::capture_edge, crate::specs::Slave::drive_edge, crate::specs::Slave::motorola_clock, crate::specs::Slave::motorola_edges, crate::specs::Slave::motorola_slave, crate::specs::Slave::ti_falls, crate::specs::Slave::ti_rises, crate::specs::Slave::ti_slave, crate::specs::Slave::data_rises, crate::specs::Slave::microwire_rises, crate::specs::Slave::microwire_falls, crate::specs::Slave::microwire_edges, crate::specs::Slave::microwire_slave, crate::specs::Slave::slave_step, crate::specs::Slave::slave_end))]
 
 ghost use Rattle.std.specs.Prelude.{◌≡◌};
-ghost use Rattle.serial.specs.Slave.{slave_take, slave_drive, selected_of, motorola_select, to_active, to_idle, capture_edge, drive_edge, motorola_clock, after_taking, motorola_edges, motorola_slave, with_mark, ti_falls, ti_rises, clock_falls, clock_rises, ti_slave, ready, microwire_select, data_over, data_rises, microwire_rises, microwire_falls, microwire_edges, microwire_slave, slave_step, ended_on, slave_end};
+ghost use Rattle.serial.specs.Slave.{slave_take, slave_drive, selected_of, motorola_select, clock_leaves, to_active, to_idle, capture_edge, drive_edge, motorola_clock, after_taking, motorola_edges, motorola_slave, with_mark, ti_falls, ti_rises, clock_falls, clock_rises, ti_slave, ready, microwire_select, data_over, data_rises, microwire_rises, microwire_falls, microwire_edges, microwire_slave, slave_step, ended_on, slave_end};
 
 use frames::engine::{Engine, Shift, Step, capture_step, offered};
 use frames::lines::Pins;
@@ -20,30 +20,37 @@ pub struct Seen {
 }
 
 impl Seen {
+    // CLK leaves this level.
+    fn clock_leaves(self, level: bool) -> bool
+        ensures { result ≡ clock_leaves level self.before self.now }
+    {
+        (self.before.clk == level) & (self.now.clk != level)
+    }
+
     fn clock_falls(self) -> bool
         ensures { result ≡ clock_falls self.before self.now }
     {
-        self.before.clk & !self.now.clk
+        self.clock_leaves(true)
     }
 
     fn clock_rises(self) -> bool
         ensures { result ≡ clock_rises self.before self.now }
     {
-        !self.before.clk & self.now.clk
+        self.clock_leaves(false)
     }
 
     // The clock edge from the idle level to the active one.
     fn to_active(self, s: Settings) -> bool
         ensures { result ≡ to_active s self.before self.now }
     {
-        (self.before.clk == s.polarity) & (self.now.clk != s.polarity)
+        self.clock_leaves(s.polarity)
     }
 
     // The clock edge back to the idle level.
     fn to_idle(self, s: Settings) -> bool
         ensures { result ≡ to_idle s self.before self.now }
     {
-        (self.before.clk != s.polarity) & (self.now.clk == s.polarity)
+        self.clock_leaves(!s.polarity)
     }
 
     fn capture_edge(self, s: Settings) -> bool
