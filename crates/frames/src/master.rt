@@ -86,17 +86,19 @@ pub fn act(s: Settings, e: Engine, waiting: bool, next: u16, bit: bool, event: E
     }
 }
 
-// At rest: not in a frame and not in an idle slot.
-pub fn resting(e: Engine) -> bool
-    ensures { result ≡ resting e }
-{
-    (!e.frame & (e.slot.0 == 0)) & (e.elapsed.0 == 0)
-}
+impl Engine {
+    // At rest: not in a frame and not in an idle slot.
+    pub fn resting(self) -> bool
+        ensures { result ≡ resting self }
+    {
+        (!self.frame & (self.slot.0 == 0)) & (self.elapsed.0 == 0)
+    }
 
-fn acting(e: Engine, waiting: bool) -> bool
-    ensures { result ≡ acting e waiting }
-{
-    (e.frame & (e.elapsed.0 == 0)) | (resting(e) & waiting)
+    fn acting(self, waiting: bool) -> bool
+        ensures { result ≡ acting self waiting }
+    {
+        (self.frame & (self.elapsed.0 == 0)) | (self.resting() & waiting)
+    }
 }
 
 // The level that a capture takes: RXD, in loopback the device's own TXD.
@@ -110,7 +112,7 @@ pub fn data_bit(s: Settings, txd: bool, rxd: bool) -> bool
 pub fn master_step(s: Settings, e: Engine, waiting: bool, next: u16, rxd: bool) -> Step
     ensures { result ≡ master_step s e waiting next rxd }
 {
-    if acting(e, waiting) {
+    if e.acting(waiting) {
         let bit = data_bit(s, master_txd(s, e), rxd);
         act(s, e, waiting, next, bit, event_of(s, e.slot))
     } else {
@@ -136,5 +138,5 @@ fn ticked(s: Settings, e: Engine) -> Engine
 pub fn master_end(s: Settings, e: Engine) -> Engine
     ensures { result ≡ master_end s e }
 {
-    if resting(e) { e } else { ticked(s, e) }
+    if e.resting() { e } else { ticked(s, e) }
 }

@@ -13,7 +13,7 @@ pub const PLACES: usize = 8;
 // contracts (`Clean`), not in the type: docs/PROOFS.md names them.
 #[derive(Clone, Copy)]
 pub struct Queue {
-    words: [u16; 8],
+    words: [u16; PLACES],
     count: usize,
 }
 
@@ -23,7 +23,7 @@ impl Queue {
         ensures { Empty result }
     {
         Queue {
-            words: [0; 8],
+            words: [0; PLACES],
             count: 0,
         }
     }
@@ -58,7 +58,7 @@ impl Queue {
         }
         let oldest = self.words[0];
         self.words.copy_within(1.., 0);
-        self.words[7] = 0;
+        self.words[PLACES - 1] = 0;
         self.count = n - 1;
         Some(oldest)
     }

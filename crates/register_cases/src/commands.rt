@@ -199,8 +199,5 @@ impl Command {
 
 // Runs the command of a text; one that has no known name does nothing.
 pub(crate) fn run(r: &mut Registers, text: &[u8]) -> Outcome {
-    match Command::parse(text) {
-        Some(command) => command.run(r),
-        None => Ok(None),
-    }
+    Command::parse(text).map_or(Ok(None), |command| command.run(r))
 }

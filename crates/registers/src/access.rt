@@ -19,14 +19,7 @@ impl Registers {
         ensures { refusal_number result ≡ read_refusal (model_of self.now) register }
     {
         match register {
-            Register::Dr => {
-                let held = self.rx.count();
-                if held == 0 {
-                    Err(Refusal::QueueEmpty)
-                } else {
-                    Ok(())
-                }
-            }
+            Register::Dr if self.rx.count() == 0 => Err(Refusal::QueueEmpty),
             Register::Icr => Err(Refusal::WrongAccess),
             Register::Reserved => Err(Refusal::ReservedOffset),
             Register::Outside => Err(Refusal::BadOffset),
@@ -66,9 +59,8 @@ impl Registers {
     fn finish_read(&mut self, register: Register)
         ensures { model_of self.new ≡ read_done (model_of self.old) register }
     {
-        match register {
-            Register::Dr => self.take_data(),
-            _ => {}
+        if let Register::Dr = register {
+            self.take_data();
         }
     }
 

@@ -41,9 +41,9 @@ impl Registers {
         let waiting = self.tx.count();
         let held = self.rx.count();
         value_of(self.busy(frame), 16u16)
-            + value_of(8 <= held, 8)
+            + value_of(queue::PLACES <= held, 8)
             + value_of(held != 0, 4)
-            + value_of(waiting < 8, 2)
+            + value_of(waiting < queue::PLACES, 2)
             + value_of(waiting == 0, 1)
     }
 

@@ -42,10 +42,7 @@ impl Registers {
     {
         let n = self.timeout.count.0;
         let on = self.enabled();
-        if on {
-            return n < self.limit().0;
-        }
-        n == 0
+        if on { n < self.limit().0 } else { n == 0 }
     }
 
     // Whether registers, queues and timeout are sound together.

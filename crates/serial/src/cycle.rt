@@ -69,6 +69,7 @@ fn take_if(r: &mut Registers, takes: bool)
     }
 }
 
+// Not `and_then`: tried, and the proof does not close for a closure that changes what it captures.
 fn receive_if(r: &mut Registers, completed: Option<u16>) -> Option<u16>
     ensures { ReceiveIf (model_of r.old) completed (words_of result) (model_of r.new) }
 {

@@ -29,7 +29,7 @@ fn put_line(line: &[u8], text: &mut [u8], at: usize) -> usize
     end + 1
 }
 
-impl<'a> Recording<'a> {
+impl Recording<'_> {
     // Whether every cycle is at most 15, so that it has a digit.
     fn cycles_fit(&self) -> bool
         ensures { result ≡ cycles_fit self.now.cycles.now }
