@@ -2,7 +2,7 @@
 ghost use Rattle.std.specs.Prelude.{◌≡◌, false, ◌<◌};
 ghost use Rattle.frames.specs.Lines.{byte_of};
 ghost use Rattle.serial.specs.Drawing.{low, idle};
-ghost use Rattle.judge.specs.Place.{motorola_table, ti_table, microwire_table, table_of, fss_weight, txd_weight, lead_byte, bit_byte, end_byte, wait_byte, room_for, place_by, last_bit, word_start, goes_on, entered, level_of, byte_at, after_bits, passed, over, step_of};
+ghost use Rattle.judge.specs.Place.{motorola_table, ti_table, microwire_table, table_of, lead_byte, bit_byte, end_byte, wait_byte, room_for, place_by, last_bit, word_start, goes_on, entered, level_of, byte_at, after_bits, passed, over, step_of};
 
 use registers::bits::{bit_at, value_of};
 use registers::settings::{Format, Settings};
@@ -92,25 +92,12 @@ fn idle_byte(s: Settings) -> u8
     u8::from(frames::lines::idle_on(s.format, s.polarity))
 }
 
-// Both weights have names of their own in the definitions.
-fn fss_weight(fss: bool) -> u16
-    ensures { result ≡ fss_weight fss }
-{
-    value_of(fss, 2)
-}
-
-fn txd_weight(txd: bool) -> u16
-    ensures { result ≡ txd_weight txd }
-{
-    value_of(txd, 4)
-}
-
 // The byte of a slot of a bit: `base` has its clock, `more` sets FSS HIGH.
 #[tactic(auto, unfolding(crate::specs::Place::bit_byte))]
 fn bit_byte(base: u8, more: bool, level: bool) -> u16
     ensures { result ≡ bit_byte base more level }
 {
-    base as u16 + fss_weight(more) + txd_weight(level)
+    base as u16 + value_of(more, 2) + value_of(level, 4)
 }
 
 impl Place {
@@ -259,7 +246,7 @@ impl Table {
         ensures { result ≡ end_byte self level n }
     {
         if n == 3 {
-            return self.hold as u16 + txd_weight(self.holds & level);
+            return self.hold as u16 + value_of(self.holds & level, 4);
         }
         self.idle as u16
     }
