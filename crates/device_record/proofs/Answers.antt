@@ -11,6 +11,7 @@ use borrow.Author.Tests.{eq-eqb, ne_eqb, eqb-true}
 use denote.Enum.Bare.{sameb}
 use Rattle.std.specs.Prelude.{◌≢◌, Result, Ok, Err, Option, Some, None, is_some, IfSome, IsErrAnd}
 use Rattle.std.specs.Option.{ok_or}
+use Rattle.std.proofs.Math.Bool.{or_comm}
 use Rattle.std.proofs.lemmas.Result.{err_from_is_err_and}
 use Rattle.registers.specs.Choose.{pick}
 use Rattle.registers.specs.Refusals.{first_of, Answer, Word, Refused}
@@ -45,19 +46,13 @@ stored : (b b' : List ℕ) (d m : DeviceModel) → eqb (length b) 128 ≡ true �
 unfolding encode
 stored b b' d m l e h = e ∙ rw (l, h)
 
-or_swap : (a b : Bool) → (a || b) ≡ (b || a)
-or_swap true true = refl
-or_swap true false = refl
-or_swap false true = refl
-or_swap false false = refl
-
 -- Either order is refused with the same number.
 pub pair_refusal_swap : (one two : List ℕ) → pair_refusal two one ≡ pair_refusal one two
 unfolding pair_refusal
 pair_refusal_swap one two =
     ap₂ (λ (s t : Bool). pick s 10 (pick t 9 0))
-    (or_swap (not (eqb (length two) 128)) (not (eqb (length one) 128)))
-    (or_swap (not (sound_bytes two)) (not (sound_bytes one)))
+    (or_comm (not (eqb (length two) 128)) (not (eqb (length one) 128)))
+    (or_comm (not (sound_bytes two)) (not (sound_bytes one)))
 
 -- Refusals -------------------------------------------------------------------------------------------------------------
 

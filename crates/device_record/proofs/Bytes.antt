@@ -28,10 +28,6 @@ use Rattle.frames.specs.declared.lines.Lines.{Lines}
 
 -- tests joined one by one
 
-pub and_assoc : (a b c : Bool) → ((a && b) && c) ≡ (a && (b && c))
-and_assoc true b c = refl
-and_assoc false b c = refl
-
 pub and-true : (a : Bool) → (a && true) ≡ a
 and-true true = refl
 and-true false = refl

@@ -3,7 +3,6 @@ use Prim.Native.Nat.{ℕ}
 use mathlib.Core.Path.{◌≡◌, refl, sym, ap, ◌∙◌}
 use mathlib.Core.Bool.{Bool, true, false, not}
 use mathlib.Core.List.{List, [], ◌∷◌}
-use native.Mathlib.Omega.{arith}
 use lib.Dec.{eqb}
 use lib.ListN.{length, replicate}
 use Rattle.registers.specs.Choose.{pick}
@@ -34,11 +33,6 @@ read_other_left bytes o h = go (eqb (length bytes) 128) (sound_bytes bytes) refl
         (λ _. ap encoded (read_other_same (decode bytes) o h) ∙ encode-decode bytes e) (λ _. refl)
     go true false e = refl
     go false u e = refl
-
--- A poll of SR.
-pub read_status_left : (bytes : List ℕ) → read_left bytes 0x0C ≡ bytes
-unfolding register_of
-read_status_left bytes = read_other_left bytes 0x0C (λ e. let z : ◌≡◌ {A = ℕ} 0 1 = cc in omega arith)
 
 -- The reads may be left out.
 pub polls_cycles : (xs : List Step) (r : Records) → Polls xs → plays_bytes xs r ≡ plays_bytes (replicate (cycles_in xs) Step.cycle) r

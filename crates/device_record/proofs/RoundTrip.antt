@@ -8,7 +8,8 @@ use lib.Dec.{eqb, ltb}
 use lib.ListN.{length, get_or, take}
 use mir.Val.{bool_byte}
 use borrow.Author.Tests.{eq-eqb, eqb-true, lt-ltb}
-use Rattle.registers.proofs.Picks.{and_left, and_right, and_both}
+use Rattle.std.proofs.lemmas.Bool.{and_from}
+use Rattle.registers.proofs.Picks.{and_left, and_right}
 use Rattle.registers.specs.Fields.{fields_of, restored, places}
 use Rattle.registers.proofs.RoundTrip.{FileFits, file_fits, model_fields, word_fits, words_fit_take}
 use Rattle.serial.proofs.Soundness.{EngineFit, engine_fit}
@@ -166,16 +167,16 @@ module _ (m : Model) (e : Engine) (h : History) (l : Lines) where
   file_decoded : registers_fit (restored (fields_at parts)) ≡ true
   unfolding state_bytes register_bytes engine_bytes level_bytes count_bytes queue_bytes word_bytes fields_of places restored fields_at word_at long_at flag_at words_at registers_fit
   file_decoded =
-      and_both _ _
-      (and_both _ _ (and_both _ _ (word_small m.control.cr0) (lt-ltb (m.control.cpsr % 256) 0x100 (omega arith))) (long_small m.timeout.count.0))
-      (and_both _ _ (places_small m.tx (length m.tx)) (places_small m.rx (length m.rx)))
+      and_from _ _
+      (and_from _ _ (and_from _ _ (word_small m.control.cr0) (lt-ltb (m.control.cpsr % 256) 0x100 (omega arith))) (long_small m.timeout.count.0))
+      (and_from _ _ (places_small m.tx (length m.tx)) (places_small m.rx (length m.rx)))
 
   engine_decoded : ((ltb (engine_at parts).slot.0 0x100 && ltb (engine_at parts).elapsed.0 0x10000) && ltb (engine_at parts).shift.captured 0x100) && (ltb (engine_at parts).shift.sending 0x10000 && ltb (engine_at parts).shift.receiving 0x10000) ≡ true
   unfolding state_bytes register_bytes engine_bytes level_bytes count_bytes engine_at word_at flag_at
   engine_decoded =
-      and_both _ _
-      (and_both _ _ (and_both _ _ (lt-ltb (e.slot.0 % 256) 0x100 (omega arith)) (word_small e.elapsed.0)) (lt-ltb (e.shift.captured % 256) 0x100 (omega arith)))
-      (and_both _ _ (word_small e.shift.sending) (word_small e.shift.receiving))
+      and_from _ _
+      (and_from _ _ (and_from _ _ (lt-ltb (e.slot.0 % 256) 0x100 (omega arith)) (word_small e.elapsed.0)) (lt-ltb (e.shift.captured % 256) 0x100 (omega arith)))
+      (and_from _ _ (word_small e.shift.sending) (word_small e.shift.receiving))
 
 -- a sound device that fits its bytes comes back from them
 pub decode-encode : (d : DeviceModel) → sound_device d ≡ true → device_fits d ≡ true → decode (encoded d) ≡ d
@@ -187,7 +188,7 @@ decode-encode d s f =
 fits_encoded : (d : DeviceModel) → device_fits (decode (encoded d)) ≡ true
 unfolding device_fits encoded decode
 fits_encoded d =
-    and_both _ _ (file_decoded d.registers d.engine d.pins d.lines) (engine_decoded d.registers d.engine d.pins d.lines)
+    and_from _ _ (file_decoded d.registers d.engine d.pins d.lines) (engine_decoded d.registers d.engine d.pins d.lines)
 
 -- sound bytes are their device's
 pub encode-decode : (b : List ℕ) → sound_bytes b ≡ true → encoded (decode b) ≡ b

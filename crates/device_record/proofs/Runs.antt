@@ -10,6 +10,7 @@ use borrow.Author.Tests.{eq-eqb, ne_eqb}
 use lib.ListN.{length, get_or, take, drop, set, length-set, drop_of_length-le}
 use lib.Seq.{drop-cons, take-suc, set_at, length-take-le, take-length, drop-length}
 use Rattle.std.specs.List.{fold}
+use Rattle.std.proofs.Math.Bool.{and_assoc}
 use Rattle.frames.specs.Lines.{pins_of, byte_of}
 use Rattle.std.specs.Prelude.{Option}
 use Rattle.registers.specs.Choose.{words_of}
@@ -17,7 +18,7 @@ use Rattle.serial.specs.Cycle.{DeviceModel, cycle_of, lost_of}
 use Rattle.serial.specs.Lost.{highest, noted}
 use Rattle.serial.proofs.Losses.{Noting, noting_begin, noting_turn}
 use Rattle.device_record.specs.Run.{losses_of, after_bytes, outputs, lost_with, inputs_fit, stops_on, count_until, written, served, RunUntil}
-use Rattle.device_record.proofs.Bytes.{and_assoc, and-true}
+use Rattle.device_record.proofs.Bytes.{and-true}
 use Rattle.serial.specs.declared.lost.Losses.{Losses}
 use Rattle.device_record.specs.declared.run.Stop.TheVariants.{Never}
 

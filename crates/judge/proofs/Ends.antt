@@ -12,7 +12,9 @@ use Rattle.registers.specs.Bits.{bit_at}
 use lib.Pow.{pow_mono, shl-shr, shl_lt}
 use borrow.Author.Tests.{eqb-true, eq-eqb, not-true}
 use Rattle.frames.specs.Bits.{cut}
+use Rattle.std.proofs.lemmas.Bool.{and_parts}
 use Rattle.serial.proofs.Top.{top, top_full}
+use Rattle.serial.proofs.Drawing.Injective.{nil_cons}
 use Rattle.serial.specs.Preloaded.{Sixteen}
 use Rattle.judge.specs.Place.{place_by, lead_byte, end_byte, last_bit, over_on, over}
 use Rattle.judge.specs.declared.place.Table.{Table}
@@ -20,7 +22,7 @@ use Rattle.judge.specs.declared.place.Stage.{Stage}
 use Rattle.judge.specs.declared.place.Stage.TheVariants.{Lead, First, Second, Wait, Turn, Close}
 use Rattle.judge.specs.declared.place.Place.{Place}
 use Rattle.judge.proofs.Rests.{down, some, bits_from, behind, Good}
-use Rattle.judge.proofs.Way.{taken_on, AgreesOn, Fits, rest_of, FineOn, Fine, Could, false_true, nil_cons, and_both}
+use Rattle.judge.proofs.Way.{taken_on, AgreesOn, Fits, rest_of, FineOn, Fine, Could, false_true}
 
 -- Something ---------------------------------------------------------------------------------------------------------------------
 
@@ -121,7 +123,7 @@ module _ (t : Table) (g : Good t) where
       go Second left word m c f o = false_true o
       go Wait left word m c f o = false_true o
       go Turn left word m c f o =
-          let b = and_both (not m) (eqb t.closes 0) o in
+          let b = and_parts (not m) (eqb t.closes 0) o in
           ended_with (place_by Turn left word m c) f f.bound refl (λ _. not-true m b.0) done
           (sym (ap (down (end_byte t (bit_at word 0))) (eqb-true t.closes 0 b.1)))
       go Close left word m c f o = ended_with (place_by Close left word m c) f f.bound refl refl done (sym (ap (down (end_byte t (bit_at word 0))) (eqb-true left 0 o)))
@@ -133,15 +135,15 @@ module _ (t : Table) (g : Good t) where
 
   bits_some : (b : Bool) (u i : ℕ) (n : ℕ) → 1 ≤ n → (r : List ℕ) → [] ≡ bits_from t b u i n ++ r → ⊥
   bits_some b u i zero l r e = absurd (omega arith)
-  bits_some b u i (suc n) l r e = nil_cons (sym e)
+  bits_some b u i (suc n) l r e = nil_cons e
 
   word_some : (f : ℕ → ℕ) (k : ℕ) (b : Bool) (u : ℕ) (r : List ℕ) → [] ≡ down f k ++ (bits_from t b u 0 t.width ++ r) → ⊥
   word_some f zero b u r e = bits_some b u 0 t.width (omega (arith, g.least)) r e
-  word_some f (suc k) b u r e = nil_cons (sym e)
+  word_some f (suc k) b u r e = nil_cons e
 
   down_none : (f : ℕ → ℕ) (k : ℕ) → [] ≡ down f k → k ≡ 0
   down_none f zero e = refl
-  down_none f (suc k) e = nil_cons (sym e)
+  down_none f (suc k) e = nil_cons e
 
   last_word : (word w : ℕ) (done us ws : List ℕ) → top t.width w t.width ≡ word → ws ≡ [] → us ≡ done ++ map (cut t.width) (w ∷ ws) → us ≡ done ++ (word ∷ [])
   last_word word w done us ws k e a =
@@ -158,11 +160,11 @@ module _ (t : Table) (g : Good t) where
       go : (stage : Stage) (left word : ℕ) (m : Bool) (c : ℕ) → Fine t (place_by stage left word m c) → (w : ℕ) (ws : List ℕ) → Fits t (place_by stage left word m c) w ws
           → [] ≡ rest_of t (place_by stage left word m c) w ws → us ≡ done ++ map (cut t.width) (w ∷ ws) → Ended (place_by stage left word m c) done us
       go Lead zero word m c f w ws v e a = let l = f.stage in absurd (omega arith)
-      go Lead (suc n) word m c f w ws v e a = nil_cons (sym e)
+      go Lead (suc n) word m c f w ws v e a = nil_cons e
       go First left word m c f w ws v e a = absurd (bits_some (some ws) w (t.width - left) left f.stage.0 (behind t w ws) e)
-      go Second left word m c f w ws v e a = nil_cons (sym e)
+      go Second left word m c f w ws v e a = nil_cons e
       go Wait zero word m c f w ws v e a = let l = f.stage.0 in absurd (omega arith)
-      go Wait (suc n) word m c f w ws v e a = nil_cons (sym e)
+      go Wait (suc n) word m c f w ws v e a = nil_cons e
       go Turn left word m c f w [] v e a = record {
         over = ap₂ ◌&&◌ (unmarked m t.marks (λ y. (f.mark y).0) v.agrees) (eq-eqb t.closes 0 (down_none (end_byte t (last_bit (place_by Turn left word m c))) t.closes e));
         words = last_word word w done us [] v.known refl a;

@@ -8,6 +8,7 @@ use native.Mathlib.Omega.{arith}
 use lib.Dec.{ltb, eqb, eqb-suc-suc}
 use lib.ListN.{length}
 use Rattle.std.specs.Prelude.{Some, None}
+use Rattle.std.proofs.lemmas.Bool.{and_parts}
 use native.Mathlib.Nat.{sub_self, mod-eq_of_lt, mod-lt, lt_of_lt_of_le}
 use lib.Pow.{pow_mono, pow_pos, pow-add}
 use borrow.Author.Tests.{ltb-true, eqb-true, eq-eqb, ne_eqb, lt-ltb, le-ltb}
@@ -15,6 +16,7 @@ use Rattle.registers.specs.Choose.{pick}
 use Rattle.registers.specs.Bits.{bit_at}
 use Rattle.frames.specs.Bits.{bit_of, shifted_in, cut}
 use Rattle.serial.proofs.Top.{top, top_zero, top_next, top_full}
+use Rattle.serial.proofs.Drawing.Injective.{cons_head, cons_tail, nil_cons}
 use Rattle.judge.specs.Place.{lead_byte, bit_byte, end_byte, wait_byte, place_by, last_bit, room_for, word_start, goes_on, entered, level_of, byte_at, after_bits, passed, over, step_of}
 use Rattle.judge.specs.declared.place.Table.{Table}
 use Rattle.judge.specs.declared.place.Stage.{Stage}
@@ -186,12 +188,6 @@ pub record Stepped (t : Table) (p : Place) (done : List ℕ) (x : ℕ) (ls us : 
   pub fits : (next_of t p x).fits ≡ true
   pub could : Could t (next_of t p x).place (done_after p (next_of t p x).place done) ls us
 
-pub head_same : {A : Type 0} {x y : A} {xs ys : List A} → (x ∷ xs) ≡ (y ∷ ys) → x ≡ y
-head_same e = cc
-
-tail_same : {A : Type 0} {x y : A} {xs ys : List A} → (x ∷ xs) ≡ (y ∷ ys) → xs ≡ ys
-tail_same e = cc
-
 -- the same count: no word is done
 done-same : (p q : Place) (done : List ℕ) → q.count ≡ p.count → done_after p q done ≡ done
 done-same p q done e = ap (λ (b : Bool). pick b (done ++ (p.word ∷ [])) done) (le-ltb p.count q.count (omega arith))
@@ -201,14 +197,14 @@ passes_on t p b q k done x ls us c =
     let e : x ∷ ls ≡ b ∷ rest_of t q c.word c.words = c.shows ∙ k.shows c.word c.words c.fits in
     let f = k.steps x in
     record {
-      fits = ap (λ (n : Next). n.fits) f ∙ eq-eqb x b (head_same e);
+      fits = ap (λ (n : Next). n.fits) f ∙ eq-eqb x b (cons_head e);
       could =
           subst (λ (n : Next). Could t n.place (done_after p n.place done) ls us) (sym f)
           (record {
             word = c.word;
             words = c.words;
             fits = k.to c.word c.words c.fits;
-            shows = tail_same e;
+            shows = cons_tail e;
             all = c.all ∙ ap (λ (d : List ℕ). d ++ map (cut t.width) (c.word ∷ c.words)) (sym (done-same p q done k.counts));
           });
     }
@@ -363,10 +359,6 @@ module _ (t : Table) where
     shows = λ w ws f. refl;
   }
 
-pub and_both : (a b : Bool) → a && b ≡ true → (a ≡ true) × (b ≡ true)
-and_both true b e = (refl, e)
-and_both false b e = false_true e
-
 shift_bound : (x : ℕ) (d : Bool) (i : ℕ) → x < 2 ^ i → 2 ^ i ≤ 2 ^ 15 → shifted_in x d < 2 ^ (i + 1)
 shift_bound x d i l m =
     subst (λ (y : ℕ). y < 2 ^ (i + 1)) (sym (shift_small x d (omega (arith, l, m)))) (go d)
@@ -423,7 +415,7 @@ module _ (t : Table) (g : Good t) (n word : ℕ) (m : Bool) (c : ℕ) (l : suc n
       let W = t.width in
       let d = bit_of W w (W - suc n) in
       let mk = mark_at t (some ws) n in
-      let e : x ≡ bit_byte t.first mk d = head_same k.shows in
+      let e : x ≡ bit_byte t.first mk d = cons_head k.shows in
       let told : next_of t here x ≡ next_by x mk d =
       first_step x ∙ ap₂ (next_by x) (ap more_by e ∙ first_told ws d k.fits.room) (ap (λ (y : ℕ). bit_at y 2) e ∙ bit2 t.first mk d g.first) in
       record {
@@ -440,7 +432,7 @@ module _ (t : Table) (g : Good t) (n word : ℕ) (m : Bool) (c : ℕ) (l : suc n
                 known = sym (top_next W w (W - suc n) (omega arith) g.most) ∙ ap (λ (y : ℕ). shifted_in y d) k.fits.known;
                 agrees = ap (mark_at t (some ws)) (sym (less n));
               };
-              shows = tail_same k.shows ∙ ap₂ (λ (b : Bool) (j : ℕ). bit_byte t.second mk b ∷ (bits_from t (some ws) w (W - suc n + 1) j ++ behind t w ws)) (sym (bit0 word d)) (sym (less n));
+              shows = cons_tail k.shows ∙ ap₂ (λ (b : Bool) (j : ℕ). bit_byte t.second mk b ∷ (bits_from t (some ws) w (W - suc n + 1) j ++ behind t w ws)) (sym (bit0 word d)) (sym (less n));
               all = k.all ∙ ap (λ (y : List ℕ). y ++ map (cut W) (w ∷ ws)) (sym (done-same here (then_by mk d) done refl));
             });
       }
@@ -563,13 +555,13 @@ module _ (t : Table) (g : Good t) where
       let d = bit_at x 2 in
       let mk = more_by t g n word m c l x in
       let half : 2 ^ i ≤ 2 ^ 15 = pow_mono {j = 15} (omega (arith, g.most, l)) in
-      let both : mk ≡ true → (t.marks && eqb (suc n) 1 ≡ true) × (bit_at x 1 && ltb (c + 1) 8 ≡ true) = λ e. and_both (t.marks && eqb (suc n) 1) (bit_at x 1 && ltb (c + 1) 8) e in
+      let both : mk ≡ true → (t.marks && eqb (suc n) 1 ≡ true) × (bit_at x 1 && ltb (c + 1) 8 ≡ true) = λ e. and_parts (t.marks && eqb (suc n) 1) (bit_at x 1 && ltb (c + 1) 8) e in
       subst (λ (a : Next). Fine t a.place) (sym (first_step t g n word m c l x))
       (record {
-        stage = (omega arith, l, λ e. eqb-true (suc n) 1 (and_both t.marks (eqb (suc n) 1) (both e).0).1);
+        stage = (omega arith, l, λ e. eqb-true (suc n) 1 (and_parts t.marks (eqb (suc n) 1) (both e).0).1);
         bound = shift_bound word d i f.bound half;
         count = f.count;
-        mark = λ e. ((and_both t.marks (eqb (suc n) 1) (both e).0).0, ltb-true (c + 1) 8 (and_both (bit_at x 1) (ltb (c + 1) 8) (both e).1).1);
+        mark = λ e. ((and_parts t.marks (eqb (suc n) 1) (both e).0).0, ltb-true (c + 1) 8 (and_parts (bit_at x 1) (ltb (c + 1) 8) (both e).1).1);
       })
 
 -- The way on from a place -----------------------------------------------------------------------------------------------------
@@ -597,9 +589,6 @@ Told Wait = Unit {0}
 Told Turn = ⊥
 Told Close = Unit {0}
 
-pub nil_cons : {A B : Type 0} {x : A} {xs : List A} → (x ∷ xs) ≡ [] → B
-nil_cons {A} {B} {x} {xs} e = let z : suc (length xs) ≡ 0 = ap length e in absurd (omega arith)
-
 -- nothing comes after the last slot
 over_fits : (t : Table) (word : ℕ) (m : Bool) (c x : ℕ) → (next_of t (place_by Close 0 word m c) x).fits ≡ false
 unfolding next_of entered over
@@ -623,7 +612,7 @@ way_told t g Wait zero word m c _ f = let l = f.stage.0 in absurd (omega arith)
 way_told t g Wait (suc n) word m c _ f = way_passing t (place_by Wait (suc n) word m c) (passing_wait t g n word m c f)
 way_told t g Turn left word m c n f = absurd n
 way_told t g Close zero word m c _ f = record {
-  on = λ done x ls us k. nil_cons k.shows;
+  on = λ done x ls us k. nil_cons (sym k.shows);
   back = λ done x ls us e k. false_true (sym (over_fits t word m c x) ∙ e);
   fine = λ x e. false_true (sym (over_fits t word m c x) ∙ e);
 }
@@ -794,7 +783,7 @@ module _ (t : Table) (g : Good t) (left word : ℕ) (m : Bool) (c : ℕ) where
       head_apart : (n : ℕ) → 1 ≤ n → (x ∷ ls) ≡ bits_from t (some vs) u 0 n ++ more → eqb x (end_byte t (bit_at word 0) t.closes) ≡ false
       head_apart zero l e = absurd (omega arith)
       head_apart (suc n) l e =
-          ap (λ (v : ℕ). eqb v (end_byte t (bit_at word 0) t.closes)) (head_same e ∙ ap (λ (b : Bool). bit_byte t.first ((b && eqb n 0) && some vs) (bit_of t.width u 0)) y)
+          ap (λ (v : ℕ). eqb v (end_byte t (bit_at word 0) t.closes)) (cons_head e ∙ ap (λ (b : Bool). bit_byte t.first ((b && eqb n 0) && some vs) (bit_of t.width u 0)) y)
           ∙ g.closing_apart k z (bit_of t.width u 0) (bit_at word 0)
 
   goes_yes : (x : ℕ) (ls : List ℕ) (u : ℕ) (vs more : List ℕ) → c + 1 < 8 → (t.marks ≡ true → m ≡ true)
@@ -808,7 +797,7 @@ module _ (t : Table) (g : Good t) (left word : ℕ) (m : Bool) (c : ℕ) where
   unfolding room_for
   goes_room x f e true y = (f.mark (sym (goes_marked x y) ∙ e)).1
   goes_room x f e false y =
-      ltb-true (c + 1) 8 (and_both (ltb (c + 1) 8) (eqb t.closes 0 || not (eqb x (end_byte t (bit_at word 0) t.closes))) (sym (goes_free x y) ∙ e)).0
+      ltb-true (c + 1) 8 (and_parts (ltb (c + 1) 8) (eqb t.closes 0 || not (eqb x (end_byte t (bit_at word 0) t.closes))) (sym (goes_free x y) ∙ e)).0
 
   -- the word is done
   turned_done : (x : ℕ) (done : List ℕ) → done_after turn (next_of t (start t.again) x).place done ≡ done_after (start t.again) (next_of t (start t.again) x).place (done ++ (word ∷ []))
@@ -829,8 +818,8 @@ module _ (t : Table) (g : Good t) (left word : ℕ) (m : Bool) (c : ℕ) where
       (record { word = w; words = []; fits = refit v refl v.known refl; shows = e; all = a }))
     where
       closed : (k : ℕ) → t.closes ≡ k → (x ∷ ls) ≡ down (end_byte t (bit_at word 0)) t.closes → goes_on t turn x ≡ false
-      closed zero z e = nil_cons (e ∙ ap (down (end_byte t (bit_at word 0))) z)
-      closed (suc k) z e = goes_not x k z (head_same (e ∙ ap (down (end_byte t (bit_at word 0))) z) ∙ ap (end_byte t (bit_at word 0)) (sym z)) t.marks refl
+      closed zero z e = nil_cons (sym (e ∙ ap (down (end_byte t (bit_at word 0))) z))
+      closed (suc k) z e = goes_not x k z (cons_head (e ∙ ap (down (end_byte t (bit_at word 0))) z) ∙ ap (end_byte t (bit_at word 0)) (sym z)) t.marks refl
   turn_on f done x ls us w (u ∷ vs) v e a =
       let r : c + 1 < 8 = omega (arith, v.room) in
       let yes = goes_yes x ls u vs (behind t u vs) r v.agrees e t.marks refl in

@@ -59,13 +59,6 @@ added_room q w long h =
 
 -- taking the oldest word
 
-pub taken_none : (q : Queue) → length (contents q) ≡ 0 → TakeOldest q None q
-taken_none q e = go (contents q) refl e
-  where
-    go : (xs : List ℕ) → contents q ≡ xs → length xs ≡ 0 → TakeOldest q None q
-    go [] h e = record { word = rw h; holds = rw h; clean = λ c. c }
-    go (x ∷ xs) h e = absurd (omega arith)
-
 -- the eight places after the oldest word went
 pub shifted : (l m : List ℕ) → length l ≡ 8 → m ≡ copy_within l 1 (length l) 0 → set m 7 0 ≡ drop 1 l ++ (0 ∷ [])
 shifted [] m long h = absurd (omega arith)

@@ -1,5 +1,5 @@
 -- The laws of a branch and of joined tests, shared by the theorems of every layer.
-use mathlib.Core.Path.{◌≡◌, refl, sym, ap}
+use mathlib.Core.Path.{◌≡◌, refl, ap}
 use mathlib.Core.Bool.{Bool, true, false, not, ◌&&◌, ◌||◌, true≢false, false≢true}
 use Rattle.registers.specs.Choose.{pick}
 
@@ -16,10 +16,6 @@ pub pick_both : {A : Type 0} (P : A → Type 0) (t : Bool) (x y : A) → (t ≡ 
 pick_both P true x y p q = p refl
 pick_both P false x y p q = q refl
 
-pub pick_ap : {A B : Type 0} (f : A → B) (t : Bool) (x y : A) → f (pick t x y) ≡ pick t (f x) (f y)
-pick_ap f true x y = refl
-pick_ap f false x y = refl
-
 -- two branches of one test, alike under f
 pub pick_alike : {A B : Type 0} (f : A → B) (t : Bool) (x y x' y' : A) → f x ≡ f x' → f y ≡ f y' → f (pick t x y) ≡ f (pick t x' y')
 pick_alike f true x y x' y' p q = p
@@ -35,17 +31,9 @@ pub and_right : (a b : Bool) → (a && b) ≡ true → b ≡ true
 and_right true b h = h
 and_right false b h = absurd (false≢true h)
 
-pub and_both : (a b : Bool) → a ≡ true → b ≡ true → (a && b) ≡ true
-and_both true b h k = k
-and_both false b h k = h
-
 pub and_off : (a b : Bool) → (a && b) ≡ false → a ≡ true → b ≡ false
 and_off true b h k = h
 and_off false b h k = absurd (false≢true k)
-
-pub or_right : (a b : Bool) → b ≡ true → (a || b) ≡ true
-or_right true b h = refl
-or_right false b h = h
 
 -- a test that counts only under another
 
@@ -60,14 +48,6 @@ under_intro false b f = refl
 pub under_off : (a b : Bool) → (not a || b) ≡ false → (a ≡ true) × (b ≡ false)
 under_off true b h = (refl, h)
 under_off false b h = absurd (true≢false h)
-
-pub not_elim : (a : Bool) → not a ≡ true → a ≡ false
-not_elim true h = sym h
-not_elim false h = refl
-
-pub not_intro : (a : Bool) → a ≡ false → not a ≡ true
-not_intro true h = sym h
-not_intro false h = refl
 
 pub both_absurd : {A : Type 0} (t : Bool) → t ≡ true → t ≡ false → A
 both_absurd true h k = absurd (true≢false k)

@@ -3,15 +3,18 @@ use Prim.Native.Nat.{ℕ, ◌+◌, ◌*◌, ◌/◌, ◌%◌, ◌≤◌, ◌<◌
 use mathlib.Core.Path.{◌≡◌, refl, sym, ap, ◌∙◌}
 use mathlib.Core.Bool.{Bool, true, false, not, ◌&&◌, ◌||◌}
 use mathlib.Core.List.{List, [], ◌∷◌, ◌++◌}
-use mathlib.Core.Logic.{◌⊎◌, inl, inr}
+use mathlib.Core.Logic.{◌⊎◌}
 use native.Mathlib.Omega.{arith}
-use native.Mathlib.Nat.{mul-le-mul, mul-pos, mod-eq_of_lt}
+use native.Mathlib.Nat.{mul-pos, mod-eq_of_lt}
 use lib.ListN.{length, get_or, length-append}
 use lib.Dec.{ltb, leb, eqb}
 use borrow.Author.Tests.{ltb-true, leb-true, eqb-true, leb-false, eqb-false, lt-ltb, le-leb, eq-eqb, ne_eqb}
 use Rattle.queue.specs.Fifo.{added, rest}
 use Rattle.registers.specs.Bits.{bit_at}
-use Rattle.registers.proofs.Picks.{pick_yes, pick_no, pick_both, and_left, and_right, and_both, or_right, under_elim, under_intro, not_elim, not_intro, both_absurd}
+use Rattle.std.proofs.Math.Logic.{⊎_elim}
+use Rattle.std.proofs.lemmas.Bool.{and_from, or_right, not-true, not_from_false}
+use Rattle.registers.proofs.Products.{divisor_most as product_most}
+use Rattle.registers.proofs.Picks.{pick_yes, pick_no, pick_both, and_left, and_right, under_elim, under_intro, both_absurd}
 use Rattle.registers.specs.Time.{cycles_of}
 use Rattle.registers.specs.Model.{Model, reset_registers, with_cr0, with_cr1, with_cpsr}
 use Rattle.registers.specs.Offsets.{register_of}
@@ -48,15 +51,15 @@ control_elim c active h =
       even = eqb-true _ _ (and_right (eqb c.cr0 0 || permitted_of c.cr0) _ a);
       cr1 = leb-true _ _ (and_left (leb c.cr1 15) _ b);
       permitted = λ k. and_left (permitted_of c.cr0) _ (u k);
-      divided = λ k. let z = eqb-false c.cpsr 0 (not_elim _ (and_right (permitted_of c.cr0) _ (u k))) in omega arith;
+      divided = λ k. let z = eqb-false c.cpsr 0 (not-true _ (and_right (permitted_of c.cr0) _ (u k))) in omega arith;
     }
 
 pub control_intro : (c : Control) (active : Bool) → ControlFacts c active → control_sound c active ≡ true
 unfolding control_sound
 control_intro c active t =
-    and_both _ _ (and_both _ _ t.shape (eq-eqb _ _ t.even))
-    (and_both _ _ (le-leb _ _ t.cr1)
-    (under_intro active _ (λ k. and_both _ _ (t.permitted k) (not_intro _ (ne_eqb c.cpsr 0 (λ z. let o = t.divided k in omega arith))))))
+    and_from _ _ (and_from _ _ t.shape (eq-eqb _ _ t.even))
+    (and_from _ _ (le-leb _ _ t.cr1)
+    (under_intro active _ (λ k. and_from _ _ (t.permitted k) (not_from_false _ (ne_eqb c.cpsr 0 (λ z. let o = t.divided k in omega arith))))))
 
 -- The timeout's count: below 64 slots with SSE set, 0 with SSE clear.
 pub record CountFacts (c : Control) (n : ℕ) : Type 0 where
@@ -94,8 +97,8 @@ sound_elim m active h =
 pub sound_intro : (m : Model) (active : Bool) → SoundFacts m active → sound_registers m active ≡ true
 unfolding sound_registers masks_sound queues_sound count_sound limit_of cycles_of
 sound_intro m active t =
-    and_both _ _ (and_both _ _ (control_intro m.control active t.control) (and_both _ _ (le-leb _ _ t.imsc) (le-leb _ _ t.dmacr)))
-    (and_both _ _ (and_both _ _ (le-leb _ _ t.tx) (le-leb _ _ t.rx))
+    and_from _ _ (and_from _ _ (control_intro m.control active t.control) (and_from _ _ (le-leb _ _ t.imsc) (le-leb _ _ t.dmacr)))
+    (and_from _ _ (and_from _ _ (le-leb _ _ t.tx) (le-leb _ _ t.rx))
     (pick_both (λ (x : Bool). x ≡ true) (enabled_of m.control) _ _ (λ e. lt-ltb _ _ (t.count.running e)) (λ e. eq-eqb _ _ (t.count.stopped e))))
 
 -- What it means to be active -------------------------------------------------------------------------------------------------
@@ -106,7 +109,7 @@ divisor_positive c active t e = mul-pos (let o = t.divided e in let v = t.even i
 
 pub divisor_most : (c : Control) → c.cpsr < 256 → (divisor_of c).0 ≤ 32512
 unfolding divisor_of
-divisor_most c h = mul-le-mul {n₂ = 127} {m₂ = 256} (omega arith) (omega arith)
+divisor_most c h = product_most c.cpsr c.cr0 h
 
 pub bits_least : (cr0 : ℕ) → permitted_of cr0 ≡ true → 4 ≤ bits_of cr0
 unfolding permitted_of bits_of
@@ -209,17 +212,13 @@ sound_read m active o on h = read_either (λ (x : Model). sound_registers x acti
 
 -- Writing ------------------------------------------------------------------------------------------------------------
 
-either : {A B C : Type 0} → (A → C) → (B → C) → A ⊎ B → C
-either f g (inl x) = f x
-either f g (inr x) = g x
-
 -- After a write the engine is active only if it was before or SSE is now set.
 abbrev pub Becomes : Bool → Bool → Control → Type 0
 Becomes active active' c = active' ≡ true → (active ≡ true) ⊎ (enabled_of c ≡ true)
 
 -- where CR1 stays, only if it was before
 still_active : (c c' : Control) (active active' : Bool) → enabled_of c' ≡ enabled_of c → Enables c active → Becomes active active' c' → active' ≡ true → active ≡ true
-still_active c c' active active' same on becomes e = either (λ x. x) (λ x. on (sym same ∙ x)) (becomes e)
+still_active c c' active active' same on becomes e = ⊎_elim (λ x. x) (λ x. on (sym same ∙ x)) (becomes e)
 
 pub sound_active : (m : Model) (active active' : Bool) → (active' ≡ true → active ≡ true) → sound_registers m active ≡ true → sound_registers m active' ≡ true
 sound_active m active active' k h =
@@ -276,8 +275,8 @@ module _ (m : Model) (active active' : Bool) (v : ℕ) (on : Enables m.control a
         shape = t.control.shape;
         even = t.control.even;
         cr1 = let s = d.small in omega arith;
-        permitted = λ e. either t.control.permitted (λ x. d.permitted (sym same ∙ x)) (becomes e);
-        divided = λ e. either t.control.divided (λ x. d.divided (sym same ∙ x)) (becomes e);
+        permitted = λ e. ⊎_elim t.control.permitted (λ x. d.permitted (sym same ∙ x)) (becomes e);
+        divided = λ e. ⊎_elim t.control.divided (λ x. d.divided (sym same ∙ x)) (becomes e);
       } in
       sound_intro _ active' (record {
         control = u;
@@ -396,8 +395,8 @@ fits_elim m h =
 pub fits_intro : (m : Model) → FitFacts m → registers_fit m ≡ true
 unfolding registers_fit
 fits_intro m t =
-    and_both _ _ (and_both _ _ (and_both _ _ (lt-ltb _ _ t.cr0) (lt-ltb _ _ t.cpsr)) (lt-ltb _ _ t.count))
-    (and_both _ _ t.tx t.rx)
+    and_from _ _ (and_from _ _ (and_from _ _ (lt-ltb _ _ t.cr0) (lt-ltb _ _ t.cpsr)) (lt-ltb _ _ t.count))
+    (and_from _ _ t.tx t.rx)
 
 rest_fits : (xs : List ℕ) → words_fit xs ≡ true → words_fit (rest xs) ≡ true
 unfolding words_fit
@@ -406,8 +405,8 @@ rest_fits (x ∷ xs) h = and_right (ltb x 0x10000) _ h
 
 append_fits : (xs : List ℕ) (w : ℕ) → w < 0x10000 → words_fit xs ≡ true → words_fit (xs ++ (w ∷ [])) ≡ true
 unfolding words_fit
-append_fits [] w p h = and_both _ _ (lt-ltb _ _ p) refl
-append_fits (x ∷ xs) w p h = and_both _ _ (and_left (ltb x 0x10000) _ h) (append_fits xs w p (and_right (ltb x 0x10000) _ h))
+append_fits [] w p h = and_from _ _ (lt-ltb _ _ p) refl
+append_fits (x ∷ xs) w p h = and_from _ _ (and_left (ltb x 0x10000) _ h) (append_fits xs w p (and_right (ltb x 0x10000) _ h))
 
 added_fits : (xs : List ℕ) (w : ℕ) → w < 0x10000 → words_fit xs ≡ true → words_fit (added xs w) ≡ true
 unfolding added

@@ -8,7 +8,8 @@ use lib.Dec.{ltb, leb, eqb}
 use lib.ListN.{length}
 use Rattle.std.specs.Prelude.{Option, Some, None, is_some}
 use Rattle.registers.specs.Choose.{pick, words_of}
-use Rattle.registers.proofs.Picks.{pick_yes, pick_no, pick_both, pick_alike, and_right, or_right}
+use Rattle.std.proofs.lemmas.Bool.{or_right}
+use Rattle.registers.proofs.Picks.{pick_yes, pick_no, pick_both, pick_alike, and_right}
 use Rattle.registers.specs.Model.{Model, with_edition, with_control, with_timeout}
 use Rattle.registers.specs.Time.{cycles, slots}
 use Rattle.registers.specs.Offsets.{register_of}

@@ -2,17 +2,17 @@
 use Rattle.std.specs.Prelude.{Option}
 use Prim.Native.Nat.{ℕ, zero, suc, ◌+◌, ◌-◌, ◌<◌}
 use mathlib.Core.Path.{◌≡◌, refl, sym, ap, ap₂, ◌∙◌}
-use mathlib.Core.List.{List, [], ◌∷◌, ◌++◌, append-nil}
+use mathlib.Core.List.{List, ◌∷◌, ◌++◌, append-nil}
 use native.Mathlib.Nat.{zero-add, suc-add}
 use native.Mathlib.Numerals.{add-one}
 use lib.ListN.{length, drop}
 use Rattle.registers.specs.Choose.{words_of}
 use Rattle.serial.specs.Cycle.{DeviceModel, device_of, completed_of, lost_of, cycle_of, CycleOf, after, completed_in, lost_in}
-use Rattle.serial.specs.Lost.{losses_of, highest, noted}
-use Rattle.serial.specs.Pair.{wire, PairModel, pair_cycle, pair_run, swapped, pins_read, pair_lost, pair_of, PairRun, PairRunIsRun}
+use Rattle.serial.specs.Lost.{highest, noted}
+use Rattle.serial.specs.Pair.{wire, PairModel, pair_cycle, pair_run, swapped, pins_read, pair_lost, pair_of, PairRunIsRun}
 use Rattle.serial.specs.Demand3.{received, LostOfDue}
 use Rattle.serial.specs.Demand3.Which.{master, slave}
-use Rattle.serial.proofs.Losses.{lost_in_run, Noting, noting_begin, noting_turn, words_join}
+use Rattle.serial.proofs.Losses.{lost_in_run, Noting, noting_turn, words_join}
 use Rattle.serial.proofs.Swap.{swap_run}
 use Rattle.serial.specs.declared.Device.{Device}
 use Rattle.serial.specs.declared.lost.Losses.{Losses}
@@ -79,9 +79,6 @@ pub record Pairing (p q : PairModel) (l m : Losses) (i : ℕ) : Type 0 where
   pub first : Noting (pair_lost i p) l i
   pub second : Noting (pair_lost i (swapped p)) m i
 
-pub pairing_begin : (p : PairModel) (l m : Losses) → l ≡ losses_of [] → m ≡ losses_of [] → Pairing p p l m 0
-pairing_begin p l m e f = record { pair = refl; first = noting_begin l e; second = noting_begin m f }
-
 turn : (p q q' : PairModel) (l m l' m' : Losses) (i : ℕ) (x y : Option ℕ) → Pairing p q l m i → i < highest → q' ≡ pair_cycle q
     → words_of x ≡ lost_of q.first (wire q.second.lines) → words_of y ≡ lost_of q.second (wire q.first.lines) → l' ≡ noted l x → m' ≡ noted m y
     → Pairing p q' l' m' (i + 1)
@@ -105,6 +102,3 @@ pairing_turn p w w' l m l' m' i x y a b g h e f c k =
     turn p (pair_of w) (pair_of w') l m l' m' i a b g h
     (ap₂ (λ (t u : DeviceModel). record { first = t; second = u }) (c.device ∙ ap (cycle_of (device_of w.first)) e') (k.device ∙ ap (cycle_of (device_of w.second)) f'))
     (c.lost ∙ ap (lost_of (device_of w.first)) e') (k.lost ∙ ap (lost_of (device_of w.second)) f')
-
-pub pairing_end : (p q : PairModel) (l m : Losses) (i n : ℕ) → Pairing p q l m i → i ≡ n → PairRun n p (record { first = l; second = m }) q
-pairing_end p q l m i n g e = let h = rw e at g in record { pair = h.pair; first = h.first.tally; second = h.second.tally }

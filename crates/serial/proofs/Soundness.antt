@@ -12,7 +12,8 @@ use Rattle.std.specs.Bool.{then_some}
 use Rattle.registers.specs.Time.{slots}
 use Rattle.registers.specs.Choose.{pick}
 use Rattle.registers.specs.Bits.{bit_at}
-use Rattle.registers.proofs.Picks.{pick_yes, pick_no, pick_both, and_left, and_right, and_both, or_right, not_elim}
+use Rattle.std.proofs.lemmas.Bool.{and_from, or_right, not-true}
+use Rattle.registers.proofs.Picks.{pick_yes, pick_no, pick_both, and_left, and_right}
 use Rattle.registers.specs.Model.{Model}
 use Rattle.registers.specs.Settings.{format_of, bits_of, divisor_of, enabled_of, settings_of}
 use Rattle.registers.specs.Access.{write_model, read_model}
@@ -298,7 +299,7 @@ module _ (F : Type 0) (s : Settings) where
     unfolding data_rises
     engine_data_rises e t =
         engine_pick (eqb (e.slot.0 % 2) 0 && not (data_over s e.slot.0)) _ _
-        (λ g. record { slot = slot_next e.slot.0 (not_elim _ (and_right (eqb (e.slot.0 % 2) 0) _ g)); elapsed = t.elapsed; shift = t.shift })
+        (λ g. record { slot = slot_next e.slot.0 (not-true _ (and_right (eqb (e.slot.0 % 2) 0) _ g)); elapsed = t.elapsed; shift = t.shift })
         (λ _. t)
 
     step_microwire_rises : (e : Engine) (next : ℕ) (bit : Bool) → EngineFacts F s e → (F → next < 0x10000) → StepFacts F s (microwire_rises s e next bit)
@@ -354,7 +355,7 @@ module _ (F : Type 0) (s : Settings) where
 
 running_intro : (F : Type 0) (s : Settings) (e : Engine) → EngineFacts F s e → running_sound s e ≡ true
 unfolding running_sound
-running_intro F s e t = and_both _ _ (and_both _ _ (le-leb _ _ t.slot) (lt-ltb _ _ t.elapsed)) (le-leb _ _ t.shift.captured)
+running_intro F s e t = and_from _ _ (and_from _ _ (le-leb _ _ t.slot) (lt-ltb _ _ t.elapsed)) (le-leb _ _ t.shift.captured)
 
 -- no frame, no idle slot, nothing captured
 pub record Stopped (e : Engine) : Type 0 where
@@ -370,7 +371,7 @@ stopped_elim e h =
     let a = and_right ((not e.frame && not e.selected) && not e.mark) _ h in
     let b = and_left (eqb e.slot.0 0 && eqb e.elapsed.0 0) _ a in
     record {
-      frame = not_elim e.frame (and_left (not e.frame) _ (and_left (not e.frame && not e.selected) _ flags));
+      frame = not-true e.frame (and_left (not e.frame) _ (and_left (not e.frame && not e.selected) _ flags));
       slot = eqb-true _ _ (and_left (eqb e.slot.0 0) _ b);
       elapsed = eqb-true _ _ (and_right (eqb e.slot.0 0) _ b);
       captured = eqb-true _ _ (and_right (eqb e.slot.0 0 && eqb e.elapsed.0 0) _ a);
@@ -405,9 +406,9 @@ fits_registers d h = and_left (registers_fit d.registers) _ h
 fits_both : (d : DeviceModel) → registers_fit d.registers ≡ true → EngineFit d.engine → device_fits d ≡ true
 unfolding device_fits
 fits_both d m t =
-    and_both _ _ m
-    (and_both _ _ (and_both _ _ (and_both _ _ (lt-ltb _ _ t.slot) (lt-ltb _ _ t.elapsed)) (lt-ltb _ _ t.captured))
-    (and_both _ _ (lt-ltb _ _ t.sending) (lt-ltb _ _ t.receiving)))
+    and_from _ _ m
+    (and_from _ _ (and_from _ _ (and_from _ _ (lt-ltb _ _ t.slot) (lt-ltb _ _ t.elapsed)) (lt-ltb _ _ t.captured))
+    (and_from _ _ (lt-ltb _ _ t.sending) (lt-ltb _ _ t.receiving)))
 
 pub sound_registers_lem : (d : DeviceModel) → sound_device d ≡ true → sound_registers d.registers (active_device d) ≡ true
 unfolding sound_device
@@ -419,7 +420,7 @@ sound_engine d h = and_right (sound_registers d.registers (active_device d)) _ h
 
 sound_both : (d : DeviceModel) → sound_registers d.registers (active_device d) ≡ true → engine_sound (settings_of d.registers.control) d.engine ≡ true → sound_device d ≡ true
 unfolding sound_device
-sound_both d m e = and_both _ _ m e
+sound_both d m e = and_from _ _ m e
 
 -- the control registers, as far as SSE asks for it
 enabled_facts : (m : Model) (active : Bool) → Enables m.control active → sound_registers m active ≡ true → ControlFacts m.control (enabled_of m.control)

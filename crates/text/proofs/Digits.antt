@@ -6,15 +6,12 @@ use native.Mathlib.Omega.{arith}
 use native.Mathlib.Decide.{dec_lt}
 use lib.Dec.{leb, eqb}
 use borrow.Author.Tests.{eqb-true, leb-true, lt-ltb, le-ltb, le-leb, lt-leb, ne_eqb}
+use Rattle.std.proofs.lemmas.Bool.{and_parts}
 use Rattle.text.specs.Choose.{pick}
 use Rattle.text.specs.Text.{line_feed, digit_of, character_of, is_digit}
 use Rattle.text.specs.Read.{value_of, DigitValue}
 use Rattle.text.specs.declared.characters.Character.{Character}
 use Rattle.text.specs.declared.characters.Character.TheVariants.{Digit, LineFeed, Other}
-
-pub and_split : (a b : Bool) → (a && b) ≡ true → (a ≡ true) × (b ≡ true)
-and_split true b e = (refl, e)
-and_split false b e = absurd (false≢true e)
 
 -- Bytes 48 to 57 and 65 to 70.
 
@@ -57,12 +54,12 @@ digit_written x d e = go (eqb x 10) (leb 48 x && leb x 57) (leb 65 x && leb x 70
         → value (pick f LineFeed (pick s (Digit (x - 48)) (pick t (Digit (x - 55)) Other))) ≡ suc d → (digit_of d ≡ x) × (d ≤ 15)
     go true s t p q r v = absurd (omega arith)
     go false true t p q r v =
-        let l = leb-true 48 x (and_split (leb 48 x) (leb x 57) q).0 in
-        let u = leb-true x 57 (and_split (leb 48 x) (leb x 57) q).1 in
+        let l = leb-true 48 x (and_parts (leb 48 x) (leb x 57) q).0 in
+        let u = leb-true x 57 (and_parts (leb 48 x) (leb x 57) q).1 in
         (digit_decimal d (omega arith) ∙ omega arith, omega arith)
     go false false true p q r v =
-        let l = leb-true 65 x (and_split (leb 65 x) (leb x 70) r).0 in
-        let u = leb-true x 70 (and_split (leb 65 x) (leb x 70) r).1 in
+        let l = leb-true 65 x (and_parts (leb 65 x) (leb x 70) r).0 in
+        let u = leb-true x 70 (and_parts (leb 65 x) (leb x 70) r).1 in
         (digit_letter d (omega arith) (omega arith) ∙ omega arith, omega arith)
     go false false false p q r v = absurd (omega arith)
 
@@ -116,12 +113,12 @@ digit_value x e = go (leb 48 x && leb x 57) (leb 65 x && leb x 70) refl refl (di
   where
     go : (s t : Bool) → (leb 48 x && leb x 57) ≡ s → (leb 65 x && leb x 70) ≡ t → ((leb 48 x && leb x 57) || (leb 65 x && leb x 70)) ≡ true → character_of x ≡ Digit (value_of x)
     go true t p q o =
-        let l = leb-true 48 x (and_split (leb 48 x) (leb x 57) p).0 in
-        let u = leb-true x 57 (and_split (leb 48 x) (leb x 57) p).1 in
+        let l = leb-true 48 x (and_parts (leb 48 x) (leb x 57) p).0 in
+        let u = leb-true x 57 (and_parts (leb 48 x) (leb x 57) p).1 in
         read_decimal x l u ∙ ap Digit (rw (lt-leb 65 x (omega arith)) (omega arith))
     go false true p q o =
-        let l = leb-true 65 x (and_split (leb 65 x) (leb x 70) q).0 in
-        let u = leb-true x 70 (and_split (leb 65 x) (leb x 70) q).1 in
+        let l = leb-true 65 x (and_parts (leb 65 x) (leb x 70) q).0 in
+        let u = leb-true x 70 (and_parts (leb 65 x) (leb x 70) q).1 in
         read_letter x l u ∙ ap Digit (rw (le-leb 65 x l) (omega arith))
     go false false p q o = absurd (false≢true (sym (rw (p, q)) ∙ o))
 

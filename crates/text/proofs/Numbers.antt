@@ -1,8 +1,10 @@
 -- Refusal numbers.
 use Prim.Native.Nat.{ℕ, zero, suc}
-use mathlib.Core.Path.{◌≡◌, refl}
+use mathlib.Core.Path.{◌≡◌, refl, ◌∙◌, ap}
 use native.Mathlib.Omega.{arith}
 use borrow.Author.Tests.{ne_eqb}
+use Rattle.std.specs.Prelude.{Result, Err, IsErrAnd}
+use Rattle.std.proofs.lemmas.Result.{err_from_is_err_and}
 use Rattle.text.specs.Refusals.{done, number, first_of}
 use Rattle.text.specs.declared.refusals.Refusal.{Refusal}
 use Rattle.text.specs.declared.refusals.Refusal.TheVariants.{TooManyCycles, BadCycle, BadPlaces, TooShort, BadCharacter, EmptyLine, NoLineFeed}
@@ -21,3 +23,7 @@ refused_number TooShort e = let l : ◌≡◌ {A = ℕ} 16 0 = e in omega arith
 refused_number BadCharacter e = let l : ◌≡◌ {A = ℕ} 17 0 = e in omega arith
 refused_number EmptyLine e = let l : ◌≡◌ {A = ℕ} 18 0 = e in omega arith
 refused_number NoLineFeed e = let l : ◌≡◌ {A = ℕ} 19 0 = e in omega arith
+
+-- What the exit of a `?` hands on.
+pub handed_on : {A : Type 0} (r : Result A Refusal) (e : Refusal) → IsErrAnd r (λ y. y ≡ e) → r ≡ Err e
+handed_on r e h = let p = err_from_is_err_and r h in p.1 ∙ ap Err p.2

@@ -11,11 +11,11 @@ use lib.Dec.{ltb, eqb}
 use lib.ListN.{length, get_or, take, drop, set, length-append, length-take, length-drop, length-map, drop_of_length-le}
 use lib.Seq.{drop-cons, take_all, length-take-le}
 use mir.Val.{bool_byte}
-use borrow.Author.Tests.{lt-ltb, ltb-true, ltb-false, eq-eqb, ne_eqb}
+use borrow.Author.Tests.{lt-ltb, ltb-true, eq-eqb, ne_eqb}
 use Rattle.text.specs.Choose.{pick}
 use Rattle.text.specs.Refusals.{done}
 use Rattle.text.specs.Text.{line_feed, most_cycles, character_of, is_digit, Put}
-use Rattle.text.specs.Read.{cycle_at, start_at, refusal_at, cycles_in, starts_from, starts_in, refusal_from, text_refusal, read_refusal, Recording, Refused, ReadingNumbers, read_answer, value_of, digit_run, feed_place, Check, Room, Fill, ReadText}
+use Rattle.text.specs.Read.{cycle_at, start_at, refusal_at, cycles_in, starts_from, starts_in, refusal_from, text_refusal, read_refusal, Recording, Refused, ReadingNumbers, read_answer, value_of, digit_run, feed_place, Check, Fill, ReadText}
 use Rattle.text.specs.declared.characters.Character.{Character}
 use Rattle.text.specs.declared.characters.Character.TheVariants.{Digit, LineFeed, Other}
 use Rattle.text.proofs.Numbers.{first_done}
@@ -23,7 +23,6 @@ use Rattle.text.proofs.Digits.{digit_value, no_feed, feed_written}
 use Rattle.text.proofs.Buffers.{Filled, put_one, fill_more, fill_end}
 use Rattle.std.specs.Prelude.{cond, min, Some, None}
 use Rattle.std.specs.List.{position_or_len}
-use Rattle.std.proofs.lemmas.Bool.{or_parts}
 use Rattle.std.proofs.lemmas.List.{nil_from_length}
 use Rattle.std.proofs.lemmas.List.Sums.{prefix_len-le-length}
 
@@ -422,15 +421,6 @@ module _ (text cb sb : List ℕ) (j : ReadingNumbers) (g : Check text j) where
     read_short s = let r = room_is true s in record { answer = rw r; cycles = rw r; starts = rw r }
 
     module _ (s : (ltb (length cb) j.cycles || ltb (length sb) j.starts) ≡ false) where
-      pub read_room : Room text cb sb
-      read_room =
-          let o = or_parts (ltb (length cb) j.cycles) (ltb (length sb) j.starts) s in
-          record {
-            accepted = accepted;
-            cycles = rw (← cycles_are) (ltb-false (length cb) j.cycles o.0);
-            starts = rw (← starts_are) (ltb-false (length sb) j.starts o.1);
-          }
-
       pub read_gives : (cb' sb' : List ℕ) → Fill text cb sb cb' sb' → ReadText text cb sb (Recording j.cycles j.starts) cb' sb'
       unfolding read_answer
       read_gives cb' sb' f =

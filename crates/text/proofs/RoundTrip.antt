@@ -19,7 +19,8 @@ use Rattle.text.specs.RoundTrip.{Readable, Writable, Inverse, Gives, RoundTrip, 
 use Rattle.text.specs.declared.characters.Character.{Character}
 use Rattle.text.specs.declared.characters.Character.TheVariants.{Digit, LineFeed, Other}
 use Rattle.text.proofs.Numbers.{first_done}
-use Rattle.text.proofs.Digits.{and_split, digit_read, digit_written, feed_written}
+use Rattle.std.proofs.lemmas.Bool.{and_parts}
+use Rattle.text.proofs.Digits.{digit_read, digit_written, feed_written}
 use Rattle.text.proofs.Writing.{places_split, places_join, line_within, places_few, length_text, starts_fit, first_zero, length-between, recording_accepted, recording-done, write_ready}
 use Rattle.text.proofs.Reading.{refusal_feed, cycles_character, starts_character, accepted_character, accepted_next, cycles_most}
 
@@ -46,7 +47,7 @@ feed = refl
 
 fit_split : (c : ℕ) (cs : List ℕ) → cycles_fit (c ∷ cs) ≡ true → (c ≤ 15) × (cycles_fit cs ≡ true)
 unfolding cycles_fit
-fit_split c cs e = let s = and_split (leb c 15) (cycles_fit cs) e in (leb-true c 15 s.0, s.1)
+fit_split c cs e = let s = and_parts (leb c 15) (cycles_fit cs) e in (leb-true c 15 s.0, s.1)
 
 -- The rest of a line that has begun, with what follows it.
 module _ (rest : List ℕ) where
@@ -87,14 +88,14 @@ unfolding cycles_fit
 fit_take zero [] e = refl
 fit_take zero (c ∷ cs) e = refl
 fit_take (suc i) [] e = refl
-fit_take (suc i) (c ∷ cs) e = let s = and_split (leb c 15) (cycles_fit cs) e in rw s.0 (fit_take i cs s.1)
+fit_take (suc i) (c ∷ cs) e = let s = and_parts (leb c 15) (cycles_fit cs) e in rw s.0 (fit_take i cs s.1)
 
 fit_drop : (i : ℕ) (cs : List ℕ) → cycles_fit cs ≡ true → cycles_fit (drop i cs) ≡ true
 unfolding cycles_fit
 fit_drop zero [] e = e
 fit_drop zero (c ∷ cs) e = e
 fit_drop (suc i) [] e = e
-fit_drop (suc i) (c ∷ cs) e = fit_drop i cs (and_split (leb c 15) (cycles_fit cs) e).1
+fit_drop (suc i) (c ∷ cs) e = fit_drop i cs (and_parts (leb c 15) (cycles_fit cs) e).1
 
 -- What reading gives of the lines from s on.
 record Given (cs : List ℕ) (s : ℕ) (text ss : List ℕ) : Type 0 where

@@ -16,7 +16,7 @@ use Rattle.text.specs.Refusals.{done}
 use Rattle.text.specs.Text.{line_feed, digit_of, most_cycles, cycles_fit, places_fit, line_of, between, line_end, line_starts, lines_from, text_of, Put}
 use Rattle.text.specs.Write.{recording_refusal, write_refusal, Bytes, Refused, write_answer, write_left, lead_of, Lead, Lines, WriteText}
 use Rattle.text.proofs.Numbers.{first_done}
-use Rattle.text.proofs.Digits.{and_split}
+use Rattle.std.proofs.lemmas.Bool.{and_parts}
 use Rattle.text.proofs.Buffers.{Filled, put_none, put_one, fill_more, fill_put, put_put, put_over}
 use Rattle.std.specs.List.{fold}
 
@@ -33,8 +33,8 @@ fit_fold all (c ∷ cs) = fit_fold (all && leb c 15) cs ∙ and_assoc all (leb c
 pub places_split : (low n p : ℕ) (ps : List ℕ) → places_fit low n (p ∷ ps) ≡ true → (low ≤ p) × (p < n) × (places_fit (p + 1) n ps ≡ true)
 unfolding places_fit
 places_split low n p ps e =
-    let a = and_split (leb low p && ltb p n) (places_fit (p + 1) n ps) e in
-    let b = and_split (leb low p) (ltb p n) a.0 in
+    let a = and_parts (leb low p && ltb p n) (places_fit (p + 1) n ps) e in
+    let b = and_parts (leb low p) (ltb p n) a.0 in
     (leb-true low p b.0, ltb-true p n b.1, a.1)
 
 pub places_join : (low n p : ℕ) (ps : List ℕ) → low ≤ p → p < n → places_fit (p + 1) n ps ≡ true → places_fit low n (p ∷ ps) ≡ true

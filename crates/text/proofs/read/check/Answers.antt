@@ -1,8 +1,7 @@
 use Rattle.std.proofs.Common.{◌≡◌, ◌<◌, ◌≤◌, length, get_or, ap, ◌∙◌, rules}
-use Rattle.std.proofs.lemmas.Result.{err_from_is_err_and}
 use Rattle.text.specs.Text.{character_of}
 use Rattle.text.proofs.Reading.{check_unended, check_refused, check_turn, check_end}
-use Rattle.text.proofs.Numbers.{refused_number}
+use Rattle.text.proofs.Numbers.{refused_number, handed_on}
 use Rattle.text.proofs.read.check.Goals as goal
 
 pub returns-in_default : goal.returns-in_default
@@ -13,10 +12,9 @@ returns-in_default c =
 
 pub returns-in_err-refusal_at : goal.returns-in_err-refusal_at
 returns-in_err-refusal_at c =
-    let p = err_from_is_err_and c.from_residual.result c.from_residual.ensures.1 in
     let within : c.digit_run-run.result < length c.loop-rest.rest.now = search rules in
     let byte : c.in-Some.byte.now ≡ get_or c.loop-rest.rest.now c.digit_run-run.result 0 = search rules in
-    rw (p.1, p.2) (check_refused _ _ _ _ c.loop-rest.invariant _ c.min-most.ensures _ c.digit_run-run.ensures within _ (c.from.ensures ∙ ap character_of byte) _ c.in_err-refusal_at.ensures (refused_number _))
+    rw (handed_on _ _ c.from_residual.ensures.1) (check_refused _ _ _ _ c.loop-rest.invariant _ c.min-most.ensures _ c.digit_run-run.ensures within _ (c.from.ensures ∙ ap character_of byte) _ c.in_err-refusal_at.ensures (refused_number _))
 
 pub loop-rest-preserved : goal.loop-rest-preserved
 loop-rest-preserved c =

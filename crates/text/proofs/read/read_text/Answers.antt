@@ -1,15 +1,13 @@
 use Rattle.std.proofs.Common.{refl, arith}
 use Rattle.std.proofs.lemmas.Bool.Decides.{nat_tests}
-use Rattle.std.proofs.lemmas.Result.{err_from_is_err_and}
 use Rattle.text.proofs.Reading.{read_refused, read_short, read_gives}
-use Rattle.text.proofs.Numbers.{refused_number}
+use Rattle.text.proofs.Numbers.{refused_number, handed_on}
 use Rattle.text.proofs.read.read_text.Goals as goal
 use Rattle.text.proofs.read.read_text.Goals.{then-cycles-found-via-then-cycles-found, then-cycles-found-via-else-cycles-found+then-starts-found}
 
 pub returns-in_err-found : goal.returns-in_err-found
 returns-in_err-found c =
-    let p = err_from_is_err_and c.from_residual.result c.from_residual.ensures.1 in
-    rw (p.1, p.2) (read_refused _ _ _ _ c.in_err-found.ensures (refused_number _))
+    rw (handed_on _ _ c.from_residual.ensures.1) (read_refused _ _ _ _ c.in_err-found.ensures (refused_number _))
 
 pub returns-then-cycles-found : goal.returns-then-cycles-found
 returns-then-cycles-found c =
