@@ -217,7 +217,7 @@ impl Table {
         }
     }
 
-    // The table for these settings; the reserved format is never enabled.
+    // The table for these settings; the reserved format is never enabled. The bound is a `requires`: settings may have any `bits`.
     #[tactic(auto, unfolding(crate::specs::Place::table_of))]
     pub(crate) fn of(s: Settings) -> Table
         requires { s.bits < 17 }

@@ -37,7 +37,7 @@ enum Edition {
 
 // Calls on a device ----------------------------------------------------------------------------------------------------
 
-// A refused write changes nothing.
+// Functions, since a device is of another crate. A refused write changes nothing.
 fn write(d: &mut Device, offset: u32, value: u32) {
     let _ = d.write(offset, value);
 }

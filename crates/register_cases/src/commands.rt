@@ -115,6 +115,7 @@ impl Command {
 
 // Running it ----------------------------------------------------------------------------------------------------------
 
+// Functions, since the registers are of another crate.
 pub(crate) fn reset() -> Registers {
     Registers::reset(false)
 }

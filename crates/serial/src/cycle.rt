@@ -1,4 +1,5 @@
 // One cycle of a device. Settings and engine, `waiting` and `next` stay apart here, as in `frames::master`.
+// What is of the registers or frames alone has functions and no methods, since the types are of these crates.
 #![tactic(auto, unfolding(crate::specs::Cycle::device_of, crate::specs::Cycle::device_step, crate::specs::Cycle::step_of, crate::specs::Cycle::tick_of, crate::specs::Cycle::end_of, crate::specs::Cycle::take_if, crate::specs::Cycle::cycle_of))]
 
 ghost use Rattle.std.specs.Prelude.{◌≡◌};

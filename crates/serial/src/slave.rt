@@ -1,5 +1,6 @@
 // What a slave does in a cycle. It sees each pin as it was two cycles ago; an edge is a difference from the cycle before that.
 // Settings and engine stay two parameters, as in `frames::master`; `next` comes from the registers and is no part of what is seen.
+// Functions and no methods, since the engine is of frames.
 #![tactic(auto, unfolding(crate::specs::Slave::motorola_select, crate::specs::Slave::capture_edge, crate::specs::Slave::drive_edge, crate::specs::Slave::motorola_clock, crate::specs::Slave::motorola_edges, crate::specs::Slave::motorola_slave, crate::specs::Slave::ti_falls, crate::specs::Slave::ti_rises, crate::specs::Slave::ti_slave, crate::specs::Slave::data_rises, crate::specs::Slave::microwire_rises, crate::specs::Slave::microwire_falls, crate::specs::Slave::microwire_edges, crate::specs::Slave::microwire_slave, crate::specs::Slave::slave_step, crate::specs::Slave::slave_end))]
 
 ghost use Rattle.std.specs.Prelude.{◌≡◌};

@@ -1,4 +1,4 @@
-// Whether a device is sound. Settings and engine stay two parameters, as in `frames::master`.
+// Whether a device is sound. Settings and engine stay two parameters, and functions, as in `slave`.
 #![tactic(auto, unfolding(crate::specs::Cycle::device_of, crate::specs::Sound::stopped_sound, crate::specs::Sound::running_sound, crate::specs::Sound::engine_sound, crate::specs::Sound::sound_device))]
 
 ghost use Rattle.std.specs.Prelude.{◌≡◌};
