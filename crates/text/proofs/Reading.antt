@@ -1,6 +1,6 @@
 -- The loops of reading.
 use Prim.Native.Nat.{ℕ, zero, suc, ◌+◌, ◌-◌, ◌≤◌, ◌<◌}
-use mathlib.Core.Path.{◌≡◌, refl, sym, ap, ◌∙◌}
+use mathlib.Core.Path.{◌≡◌, refl, sym, ap, ap₂, subst, ◌∙◌}
 use mathlib.Core.Bool.{Bool, true, false, true≢false, not, ◌||◌}
 use mathlib.Core.List.{List, [], ◌∷◌, ◌++◌, map}
 use native.Mathlib.Omega.{arith}
@@ -9,21 +9,24 @@ use native.Mathlib.Nat.{add-zero}
 use native.Mathlib.Numerals.{add-one}
 use lib.Dec.{ltb, eqb}
 use lib.ListN.{length, get_or, take, drop, set, length-append, length-take, length-drop, length-map, drop_of_length-le}
-use lib.Seq.{drop-cons, take_all, length-take-le}
+use lib.Seq.{drop-cons, take_all, length-take-le, drop-append_seam}
 use mir.Val.{bool_byte}
 use borrow.Author.Tests.{lt-ltb, ltb-true, eq-eqb, ne_eqb}
 use Rattle.text.specs.Choose.{pick}
 use Rattle.text.specs.Refusals.{done}
 use Rattle.text.specs.Text.{line_feed, most_cycles, character_of, is_digit, Put}
-use Rattle.text.specs.Read.{cycle_at, start_at, refusal_at, cycles_in, starts_from, starts_in, refusal_from, text_refusal, read_refusal, Recording, Refused, ReadingNumbers, read_answer, value_of, digit_run, feed_place, Check, Fill, ReadText}
+use Rattle.text.specs.Read.{cycle_at, start_at, refusal_at, cycles_in, starts_from, starts_in, refusal_from, text_refusal, read_refusal, Recording, Refused, ReadingNumbers, read_answer, value_of, digit_run, Check, Room, Fill, ReadText}
 use Rattle.text.specs.declared.characters.Character.{Character}
 use Rattle.text.specs.declared.characters.Character.TheVariants.{Digit, LineFeed, Other}
 use Rattle.text.proofs.Numbers.{first_done}
 use Rattle.text.proofs.Digits.{digit_value, no_feed, feed_written}
-use Rattle.text.proofs.Buffers.{Filled, put_one, fill_more, fill_end}
-use Rattle.std.specs.Prelude.{cond, min, Some, None}
-use Rattle.std.specs.List.{position_or_len}
-use Rattle.std.proofs.lemmas.List.{nil_from_length}
+use Rattle.text.proofs.Buffers.{Filled, fill_begin, put_one, fill_more, fill_end}
+use Rattle.std.specs.Prelude.{cond, min}
+use denote.Param.Members.{Mut}
+use denote.Ref.{Bor}
+use Rattle.std.specs.Fn.{ComputesKey}
+use Rattle.std.specs.List.{position_or_len, IsFirstMatchOrLen}
+use Rattle.std.proofs.lemmas.List.{nil_from_length, take-append-le}
 use Rattle.std.proofs.lemmas.List.Sums.{prefix_len-le-length}
 
 -- What is accepted -----------------------------------------------------------------------------------------------------
@@ -322,75 +325,114 @@ line_begun n (x ∷ xs) e h =
     let d = line_digit n x xs e in
     (line_read n (x ∷ xs) (sym (first_refusal x xs n d) ∙ e), first_starts x xs n d)
 
-module _ (text cb sb cb₁ sb₁ : List ℕ) (n m : ℕ) (rest : List ℕ) (f : Filling text cb sb cb₁ sb₁ n m rest) where
-  -- no line feed: nothing is left
-  pub filling_end : None ≡ feed_place rest → Fill text cb sb cb₁ sb₁
-  unfolding cycles_in starts_from
-  filling_end e = go rest f.accepted f.cycles f.starts e
-    where
-      go : (xs : List ℕ) → refusal_from n false xs ≡ done → Filled (cycles_in text) cb cb₁ n (cycles_in xs) → Filled (starts_in text) sb sb₁ m (starts_from n false xs) → None ≡ feed_place xs → Fill text cb sb cb₁ sb₁
-      go [] a c s e = record { cycles = fill_end (cycles_in text) cb cb₁ n c; starts = fill_end (starts_in text) sb sb₁ m s }
-      go (x ∷ xs) a c s e =
-          let w = (line_begun n (x ∷ xs) a (omega arith)).0.within in
-          let z : None ≡ Some (place_or_length (x ∷ xs)) = rw (lt-ltb (place_or_length (x ∷ xs)) (length (x ∷ xs)) w) at e in
-          absurd (cc)
+-- The line that is cut off what is left, up to the first line feed.
+pub record Cut (rest line more : List ℕ) : Type 0 where
+  pub parts : rest ≡ line ++ more
+  pub some : 0 < length rest
+  pub first : ℕ
+  pub long : length line ≡ min (first + 1) (length rest)
+  pub feed : IsFirstMatchOrLen (λ x. eqb x line_feed) rest first
 
-  module _ (c : ℕ) (given : Some c ≡ feed_place rest) where
-    at_feed : (c ≡ place_or_length rest) × (c < length rest)
-    at_feed = go (ltb (place_or_length rest) (length rest)) refl given
-      where
-        go : (t : Bool) → ltb (place_or_length rest) (length rest) ≡ t → Some c ≡ cond t (Some (place_or_length rest)) None → (c ≡ place_or_length rest) × (c < length rest)
-        go true h e = let l = ltb-true (place_or_length rest) (length rest) h in let q : c ≡ place_or_length rest = cc in (q, omega arith)
-        go false h e = absurd (cc)
+-- What a step of `split_inclusive` tells, where the test is that for a line feed.
+pub cut_made : {F : Type 0} (g : Mut F (Bor ℕ × Unit {0}) Bool) {f f' : F} {rest line more : List ℕ} → ComputesKey g (λ x. eqb x line_feed) f
+    → (rest ≡ line ++ more) × ((i : ℕ) × (length line ≡ min (i + 1) (length rest)) × ((p : ℕ → Bool) → ComputesKey g p f → ComputesKey g p f' × IsFirstMatchOrLen p rest i)) × (0 < length rest) → Cut rest line more
+cut_made g t s = record { parts = s.0; some = s.2; first = s.1.0; long = s.1.1; feed = (s.1.2 (λ x. eqb x line_feed) t).1 }
+
+-- The place that a cut tells is that of the first line feed, if there is one.
+first_feed : (xs : List ℕ) (i : ℕ) → place_or_length xs < length xs → IsFirstMatchOrLen (λ x. eqb x line_feed) xs i → i ≡ place_or_length xs
+first_feed [] i l h = absurd (omega arith)
+first_feed (x ∷ xs) zero l h = rw (h.1 (omega arith) 0)
+first_feed (x ∷ xs) (suc i) l h = go (eqb x line_feed) refl l (λ w. first_feed xs i w (λ k d a b. h.0 (suc k) d (omega arith) (omega arith), λ b d. h.1 (omega arith) d))
+  where
+    go : (t : Bool) → eqb x line_feed ≡ t → cond (not t) (1 + place_or_length xs) 0 < length (x ∷ xs) → (place_or_length xs < length xs → i ≡ place_or_length xs) → suc i ≡ cond (not t) (1 + place_or_length xs) 0
+    go true e w r = absurd (true≢false (sym e ∙ h.0 0 0 (omega arith) (omega arith)))
+    go false e w r = let q = r (omega arith) in omega arith
+
+-- At first all is left.
+pub filling_begin : (text cb sb : List ℕ) → Room text cb sb → (m : ℕ) (rest : List ℕ) → m ≡ 0 → rest ≡ text → Filling text cb sb cb sb 0 m rest
+filling_begin text cb sb r m rest e q =
+    rw (e, q)
+    (record {
+      most = omega arith;
+      accepted = r.accepted;
+      cycles = fill_begin cb 0 (cycles_in text) (let h = r.cycles in omega arith);
+      starts = fill_begin sb 0 (starts_in text) (let h = r.starts in omega arith);
+    })
+
+module _ (text cb sb cb₁ sb₁ : List ℕ) (n m : ℕ) (rest : List ℕ) (f : Filling text cb sb cb₁ sb₁ n m rest) where
+  pub filling_end : length rest ≡ 0 → Fill text cb sb cb₁ sb₁
+  unfolding cycles_in starts_from
+  filling_end h =
+      let e = nil_from_length rest h in
+      record { cycles = fill_end (cycles_in text) cb cb₁ n (rw e at f.cycles); starts = fill_end (starts_in text) sb sb₁ m (rw e at f.starts) }
+
+  module _ (line more : List ℕ) (k : Cut rest line more) where
+    abbrev c : ℕ
+    c = length line - 1
+
+    at_feed : (c ≡ place_or_length rest) × (length line ≡ c + 1)
+    at_feed =
+        let w = (line_begun n rest f.accepted k.some).0.within in
+        let i = first_feed rest k.first w k.feed in
+        let l : length line ≡ min (k.first + 1) (length rest) = k.long in
+        (omega (arith, w, i, l), omega (arith, w, i, l))
+
+    before : take c line ≡ take c rest
+    before = sym (ap (take c) k.parts ∙ take-append-le c line more (omega arith))
+
+    behind : more ≡ drop (suc c) rest
+    behind = let l = at_feed.1 in let e : length line ≡ suc c = omega arith in sym (drop-append_seam line more) ∙ ap₂ drop e (sym k.parts)
 
     begun : Line n c rest × (starts_from n false rest ≡ n ∷ starts_from n true rest)
-    begun = rw (at_feed.0) (line_begun n rest f.accepted (let l = at_feed.1 in omega arith))
+    begun = rw at_feed.0 (line_begun n rest f.accepted k.some)
 
-    pub line_within : c < length rest
-    line_within = at_feed.1
+    next_cycles : Filled (cycles_in text) cb cb₁ n (map value_of (take c line) ++ cycles_in more)
+    next_cycles = subst (λ (q : List ℕ). Filled (cycles_in text) cb cb₁ n q) (begun.0.cycles ∙ ap₂ (λ (a b : List ℕ). map value_of a ++ cycles_in b) (sym before) (sym behind)) f.cycles
 
-    next_cycles : Filled (cycles_in text) cb cb₁ n (map value_of (take c rest) ++ cycles_in (drop (c + 1) rest))
-    next_cycles = rw (add-one c, ← begun.0.cycles) f.cycles
+    next_start : Filled (starts_in text) sb sb₁ m ((n ∷ []) ++ starts_from (n + c) false more)
+    next_start = subst (λ (q : List ℕ). Filled (starts_in text) sb sb₁ m q) (begun.1 ∙ ap (λ (q : List ℕ). n ∷ q) (begun.0.starts ∙ ap (starts_from (n + c) false) (sym behind))) f.starts
 
-    next_start : Filled (starts_in text) sb sb₁ m ((n ∷ []) ++ starts_from (n + c) false (drop (c + 1) rest))
-    next_start = rw (add-one c, ← begun.0.starts, ← begun.1) f.starts
-
-    pub start_room : m < length sb₁
+    start_room : m < length sb₁
     start_room =
         let a = next_start.count in
         let r = next_start.room in
         let s = next_start.same in
         omega arith
 
-    pub cycles_room : n + length (take c rest) ≤ length cb₁
+    pub cycles_room : n + length (take c line) ≤ length cb₁
     cycles_room =
         let a = next_cycles.count in
         let r = next_cycles.room in
         let s = next_cycles.same in
-        let l = length-append (map value_of (take c rest)) (cycles_in (drop (c + 1) rest)) in
-        let k = length-map (take c rest) value_of in
+        let l = length-append (map value_of (take c line)) (cycles_in more) in
+        let q = length-map (take c line) value_of in
         omega arith
 
     -- the line's cycles fit
-    length_cycles : length (map value_of (take c rest)) ≡ c
-    length_cycles = length-map (take c rest) value_of ∙ length-take-le c rest (let w = line_within in omega arith)
+    length_cycles : length (map value_of (take c line)) ≡ c
+    length_cycles = length-map (take c line) value_of ∙ length-take-le c line (let l = at_feed.1 in omega (arith, l))
 
-    pub line_fits : n + c ≤ most_cycles
+    line_fits : n + c ≤ most_cycles
     line_fits =
         let t = cycles_most n false rest f.accepted f.most in
-        let l = ap length begun.0.cycles ∙ length-append (map value_of (take c rest)) (cycles_in (drop (suc c) rest)) in
-        let k = length_cycles in
+        let a = f.cycles.count in
+        let b = next_cycles.count in
+        let l = length-append (map value_of (take c line)) (cycles_in more) in
+        let q = length_cycles in
         omega arith
 
-    pub filling_turn : (n₂ : ℕ) (cb₂ : List ℕ) → Put cb₁ n (map value_of (take c rest)) n₂ cb₂ → Filling text cb sb cb₂ (set sb₁ m n) n₂ (m + 1) (take (length rest - (c + 1)) (drop (c + 1) rest))
-    filling_turn n₂ cb₂ p =
-        let i : n₂ ≡ n + c = p.next ∙ ap (λ (t : ℕ). n + t) length_cycles in
-        rw (after_line c rest)
+    pub start_place : (i : ℕ) → i ≡ m → i < length sb₁
+    start_place i e = rw e start_room
+
+    pub filling_turn : (i j n₂ : ℕ) (cb₂ : List ℕ) → i ≡ m → j ≡ m + 1 → Put cb₁ n (map value_of (take c line)) n₂ cb₂ → Filling text cb sb cb₂ (set sb₁ i n) n₂ j more
+    filling_turn i j n₂ cb₂ e q p =
+        let w : n₂ ≡ n + c = p.next ∙ ap (λ (t : ℕ). n + t) length_cycles in
+        rw (e, q)
         (record {
-          most = rw i line_fits;
-          accepted = rw (i, add-one c) begun.0.accepted;
-          cycles = fill_more (cycles_in text) cb cb₁ n (map value_of (take c rest)) (cycles_in (drop (c + 1) rest)) next_cycles n₂ cb₂ p;
-          starts = rw i (fill_more (starts_in text) sb sb₁ m (n ∷ []) (starts_from (n + c) false (drop (c + 1) rest)) next_start (m + 1) (set sb₁ m n) (put_one sb₁ m n start_room));
+          most = rw w line_fits;
+          accepted = ap₂ (λ (v : ℕ) (xs : List ℕ). refusal_from v false xs) w behind ∙ begun.0.accepted;
+          cycles = fill_more (cycles_in text) cb cb₁ n (map value_of (take c line)) (cycles_in more) next_cycles n₂ cb₂ p;
+          starts = rw w (fill_more (starts_in text) sb sb₁ m (n ∷ []) (starts_from (n + c) false more) next_start (m + 1) (set sb₁ m n) (put_one sb₁ m n start_room));
         })
 
 -- Answers --------------------------------------------------------------------------------------------------------------

@@ -1,10 +1,10 @@
 -- Reading a text: what it contains, where it is refused, what is answered, and what is left in the lent buffers.
-use Rattle.std.specs.Prelude.{ℕ, ◌+◌, ◌*◌, ◌%◌, ◌≤◌, ◌≡◌, Bool, false, ◌||◌, List, [], ◌∷◌, ◌++◌, length, ltb, leb, eqb, Option, Result, Ok, Err}
-use Rattle.std.specs.List.{prefix_len, position}
+use Rattle.std.specs.Prelude.{ℕ, ◌+◌, ◌*◌, ◌%◌, ◌≤◌, ◌≡◌, Bool, false, ◌||◌, List, [], ◌∷◌, ◌++◌, length, ltb, leb, eqb, Result, Ok, Err}
+use Rattle.std.specs.List.{prefix_len}
 use mir.Val.{bool_byte}
 use Rattle.text.specs.Choose.{pick}
 use Rattle.text.specs.Refusals.{done, too_many_cycles, too_short, bad_character, empty_line, no_line_feed, number, first_of}
-use Rattle.text.specs.Text.{line_feed, most_cycles, character_of, is_digit, over}
+use Rattle.text.specs.Text.{most_cycles, character_of, is_digit, over}
 use Rattle.text.specs.declared.characters.Character.{Character}
 use Rattle.text.specs.declared.characters.Character.TheVariants.{Digit, LineFeed, Other}
 use Rattle.text.specs.declared.refusals.Refusal.{Refusal}
@@ -119,10 +119,6 @@ DigitValue = (x d : ℕ) → character_of x ≡ Digit d → value_of x ≡ d
 -- How many digits the bytes begin with.
 abbrev pub digit_run : List ℕ → ℕ
 digit_run bytes = prefix_len (λ x. is_digit (character_of x)) bytes
-
--- How many bytes come before the first line feed, if there is one.
-abbrev pub feed_place : List ℕ → Option ℕ
-feed_place bytes = position (λ x. eqb x line_feed) bytes
 
 -- A text is checked: its refusal, and how many cycles and line starts it has, 0 if it is refused.
 pub record Check (text : List ℕ) (r : ReadingNumbers) : Type 0 where

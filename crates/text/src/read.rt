@@ -1,7 +1,7 @@
 // Reading a text as cycles and line starts.
 ghost use Rattle.std.specs.Prelude.{◌≡◌};
 ghost use Rattle.text.specs.Refusals.{refusal_number};
-ghost use Rattle.text.specs.Read.{refusal_at, digit_run, feed_place, reading_of, reading_numbers, Check, Room, Fill, ReadText};
+ghost use Rattle.text.specs.Read.{refusal_at, digit_run, reading_of, reading_numbers, Check, Room, Fill, ReadText};
 
 use crate::characters;
 use crate::characters::{Character, LINE_FEED};
@@ -38,13 +38,6 @@ fn digit_run(bytes: &[u8]) -> usize
         .count()
 }
 
-// How many bytes come before the first line feed, if there is one.
-fn feed_place(bytes: &[u8]) -> Option<usize>
-    ensures { result ≡ feed_place bytes.now }
-{
-    bytes.iter().position(|byte| *byte == LINE_FEED)
-}
-
 // Checks a text line by line, up to the character that decides.
 fn check(text: &[u8]) -> Result<Counts, Refusal>
     ensures { Check text.now (reading_numbers (reading_of result)) }
@@ -52,7 +45,7 @@ fn check(text: &[u8]) -> Result<Counts, Refusal>
     let mut cycles: usize = 0;
     let mut starts: usize = 0;
     let mut rest = text;
-    // Not a `for`: where the next line starts is known only when this one is read.
+    // Not over `split_inclusive`: the digits of a line lead to its end, so that each byte is looked at once.
     while !rest.is_empty() {
         let most = rest.len().min(MOST_CYCLES - cycles);
         let run = digit_run(&rest[..most]);
@@ -73,14 +66,10 @@ fn fill(text: &[u8], cycles: &mut [u8], starts: &mut [u32])
     ensures { Fill text.now cycles.old starts.old cycles.new starts.new }
 {
     let mut n: usize = 0;
-    // Lines are counted by hand: of what is written through an adapter of `iter_mut` a proof learns nothing.
-    let mut m: usize = 0;
-    let mut rest = text;
-    while let Some(end) = feed_place(rest) {
+    // By index, as in `put_mapped`. An accepted line ends in its line feed.
+    for (m, line) in text.split_inclusive(|byte| *byte == LINE_FEED).enumerate() {
         starts[m] = n as u32;
-        n = put_mapped(&rest[..end], characters::value_of, cycles, n);
-        m += 1;
-        rest = &rest[end + 1..];
+        n = put_mapped(&line[..line.len() - 1], characters::value_of, cycles, n);
     }
 }
 
