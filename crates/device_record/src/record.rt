@@ -15,7 +15,7 @@ use std::array;
 pub const RECORD_LENGTH: usize = 128;
 
 // A byte of the record; 0 after the end, no Option: `decode` takes any slice. Bytes and place are no struct: each field is
-// read once, at a place of its own.
+// read once, or written once (`put_words`), at a place of its own.
 fn byte_at(bytes: &[u8], i: usize) -> u8
     ensures { result ≡ byte_at bytes.now i }
 {

@@ -35,17 +35,17 @@ pub struct Ran {
     pub lost: Losses,
 }
 
-// Whether every input byte is at most 7.
+// Whether every input byte is at most 7. Not one function with text's `cycles_fit`: neither crate sees the other.
 pub fn inputs_fit(input: &[u8]) -> bool
     ensures { result ≡ inputs_fit input.now }
 {
-    // Not `all`: with no early exit the loop takes many bytes at once. text has such a test for 15; the two share no crate.
+    // Not `all`: with no early exit the loop takes many bytes at once.
     input
         .iter()
         .fold(true, |fit, byte| fit & (*byte <= HIGHEST_INPUT))
 }
 
-// BSY, as a read of SR gives it.
+// BSY, as a read of SR gives it. A function, since a device is of another crate.
 pub fn busy_device(mut d: Device) -> bool
     ensures { result ≡ busy_device (device_of d) }
 {

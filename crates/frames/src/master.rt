@@ -14,6 +14,7 @@ use registers::settings::Settings;
 use registers::time::{Cycles, Slots};
 
 // TI's joined word: the old word's last bit stays on TXD, its last capture is still to come.
+// `mut`, as the copies of `engine` take it.
 fn joined_shift(width: u16, i: u16, next: u16, mut shift: Shift) -> Shift
     ensures { result ≡ joined_shift width i next shift }
 {
@@ -28,7 +29,7 @@ fn drive_step(s: Settings, e: Engine, i: u16) -> Step
     Step::no_word(e.with_shift(e.shift.driven(width_of(s), i)))
 }
 
-// `waiting` and `next` go on from `act` as they came.
+// `waiting` and `next` go on from `act` as they came, here and in `join_step`.
 fn chain_step(s: Settings, e: Engine, waiting: bool, next: u16, slot: Slots) -> Step
     ensures { result ≡ chain_step s e waiting next slot }
 {
@@ -108,7 +109,8 @@ pub fn data_bit(s: Settings, txd: bool, rxd: bool) -> bool
     if s.loopback { txd } else { rxd }
 }
 
-// A master's step: the event of this cycle, if there is one. The lines show the engine after it.
+// A master's step: the event of this cycle, if there is one. The lines show the engine after it. `waiting` and `next` are no
+// Option, as in `act`.
 pub fn master_step(s: Settings, e: Engine, waiting: bool, next: u16, rxd: bool) -> Step
     ensures { result ≡ master_step s e waiting next rxd }
 {

@@ -61,7 +61,8 @@ fn number(text: &[u8]) -> u32 {
     sum
 }
 
-// The last two numbers of a text, 0 where there are fewer. A number goes from a byte up to '9' to the next space.
+// The last two numbers of a text, 0 where there are fewer, no Option: a command takes a missing number as 0. A number goes
+// from a byte up to '9' to the next space.
 fn last_two(text: &[u8]) -> (u32, u32) {
     let mut first = 0;
     let mut last = 0;

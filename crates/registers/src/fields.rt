@@ -25,7 +25,7 @@ pub struct Fields {
     pub held: u8,
 }
 
-// A queue's eight places; 0 after the last word.
+// A queue's eight places; 0 after the last word. A function, since a queue is of another crate.
 fn places(q: &Queue) -> [u16; 8]
     ensures { result ≡ places (contents q.now) }
 {

@@ -21,7 +21,8 @@ pub struct PairLosses {
     pub second: Losses,
 }
 
-// What the other device's pins read; a released TXD reads LOW. Not a From: both types are of frames.
+// What the other device's pins read; a released TXD reads LOW. Not a From: it would not say that the
+// lines are another device's.
 pub fn wire(l: Lines) -> Pins
     ensures { result ≡ wire l }
 {

@@ -75,7 +75,8 @@ impl Seen {
     }
 }
 
-// How a slave takes a word, in every format. If it may not take one, it sends zeros.
+// How a slave takes a word, in every format. If it may not take one, it sends zeros. `may` and `next` are no Option, as in
+// `frames::master`.
 fn slave_take(s: Settings, e: Engine, may: bool, next: u16) -> Step
     ensures { result ≡ slave_take s e may next }
 {
@@ -163,6 +164,7 @@ fn motorola_slave(s: Settings, e: Engine, seen: Seen, next: u16) -> Step
     }
 }
 
+// `mut`, as the copies of the engine in frames take it.
 fn with_mark(mut e: Engine, mark: bool) -> Engine
     ensures { result ≡ with_mark e mark }
 {

@@ -30,7 +30,8 @@ fn put_line(line: &[u8], text: &mut [u8], at: usize) -> usize
 }
 
 impl Recording<'_> {
-    // Whether every cycle is at most 15, so that it has a digit.
+    // Whether every cycle is at most 15, so that it has a digit. Not one function with device_record's `inputs_fit`: neither
+    // crate sees the other.
     fn cycles_fit(&self) -> bool
         ensures { result ≡ cycles_fit self.now.cycles.now }
     {
@@ -129,7 +130,7 @@ impl Recording<'_> {
 }
 
 // Writes a recording as text. Each place starts a line; cycles before the first place are a line of their own, and so are all
-// cycles if there is no place.
+// cycles if there is no place. Cycles and places are two parameters, as C gives them.
 pub fn write_text(cycles: &[u8], places: &[u32], text: &mut [u8]) -> Result<usize, Refusal>
     ensures { WriteText cycles.now places.now text.old (written_of result) text.new }
 {
