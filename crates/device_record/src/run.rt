@@ -49,10 +49,10 @@ pub fn inputs_fit(input: &[u8]) -> bool
 pub fn busy_device(mut d: Device) -> bool
     ensures { result ≡ busy_device (device_of d) }
 {
-    match d.read(STATUS) {
-        Ok(status) => registers::bits::bit_at(status as u32, BUSY),
-        Err(_) => false,
-    }
+    let Ok(status) = d.read(STATUS) else {
+        return false;
+    };
+    registers::bits::bit_at(status as u32, BUSY)
 }
 
 fn stops_on(stop: Stop, d: Device) -> bool

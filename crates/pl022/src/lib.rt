@@ -124,9 +124,15 @@ pub extern "C" fn pl022_read(bytes: &mut [u8], offset: u32) -> WordResult
     ensures { ReadResult bytes.old offset result bytes.new }
 {
     let answer = device_record::calls::read_call(bytes, offset);
+    let Ok(word) = answer else {
+        return WordResult {
+            refusal: number(answer) as u32,
+            word: 0,
+        };
+    };
     WordResult {
-        refusal: number(answer) as u32,
-        word: answer.unwrap_or(0) as u32,
+        refusal: 0,
+        word: word as u32,
     }
 }
 
