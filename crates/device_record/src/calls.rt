@@ -1,11 +1,10 @@
 // The calls on records: what each answers, and what it leaves in the caller's bytes.
 ghost use Rattle.std.specs.Prelude.{◌≡◌, ◌≢◌, length, MatchResult};
 ghost use Rattle.serial.specs.Cycle.{device_of};
-ghost use Rattle.serial.specs.Pair.{pair_of};
 ghost use Rattle.device_record.specs.Record.{record_length, decode};
 ghost use Rattle.device_record.specs.Run.{run_refusal};
 ghost use Rattle.device_record.specs.Refusals.{refusal_number, answer_of, Checks};
-ghost use Rattle.device_record.specs.Calls.{edition_of, record_refusal, pair_refusal, pair_of_records, run_answer, pair_answer, ResetCall, ReadCall, WriteCall, RunCall, PairCall};
+ghost use Rattle.device_record.specs.Calls.{edition_of, record_refusal, run_answer, pair_answer, ResetCall, ReadCall, WriteCall, RunCall, PairCall};
 
 use crate::record::RECORD_LENGTH;
 use crate::refusals::Refusal;
@@ -66,18 +65,6 @@ fn device_to_run(bytes: &[u8], input: &[u8], output: &[u8]) -> Result<Device, Re
     device_in(bytes)
 }
 
-// The devices of two sound records.
-fn pair_in(first: &[u8], second: &[u8]) -> Result<Wired, Refusal>
-    ensures { Checks (pair_refusal first.now second.now) (λ p. pair_of p ≡ pair_of_records first.now second.now) result }
-{
-    check_length(first)?;
-    check_length(second)?;
-    Ok(Wired {
-        first: device_in(first)?,
-        second: device_in(second)?,
-    })
-}
-
 // Makes the record a device after reset, of the given edition, whatever it held.
 pub fn reset_call(bytes: &mut [u8], edition: u32) -> Result<(), Refusal>
     ensures { ResetCall bytes.old edition (refusal_number result) bytes.new }
@@ -127,7 +114,13 @@ pub fn run_call(
 pub fn pair_call(first: &mut [u8], second: &mut [u8], cycles: u64) -> Result<PairLosses, Refusal>
     ensures { PairCall first.old second.old cycles (pair_answer result) first.new second.new }
 {
-    let mut pair = pair_in(first, second)?;
+    check_length(first)?;
+    check_length(second)?;
+    // Built here: a pair in a Result is so large that it is copied by memcpy, and the archive is to need no name from outside.
+    let mut pair = Wired {
+        first: device_in(first)?,
+        second: device_in(second)?,
+    };
     let lost = pair.run(cycles);
     crate::record::encode(pair.first, first);
     crate::record::encode(pair.second, second);

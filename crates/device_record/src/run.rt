@@ -40,9 +40,8 @@ pub fn inputs_fit(input: &[u8]) -> bool
     ensures { result ≡ inputs_fit input.now }
 {
     // Not `all`: with no early exit the loop takes many bytes at once.
-    input
-        .iter()
-        .fold(true, |fit, byte| fit & (*byte <= HIGHEST_INPUT))
+    let bytes = input.iter();
+    bytes.fold(true, |fit, byte| fit & (*byte <= HIGHEST_INPUT))
 }
 
 // BSY, as a read of SR gives it. A function, since a device is of another crate.

@@ -60,10 +60,10 @@ added_room q w long h =
 -- taking the oldest word
 
 -- the eight places after the oldest word went
-pub shifted : (l m : List ℕ) → length l ≡ 8 → m ≡ copy_within l 1 (length l) 0 → set m 7 0 ≡ drop 1 l ++ (0 ∷ [])
+pub shifted : (l m : List ℕ) → length l ≡ 8 → m ≡ copy_within l 1 8 0 → set m 7 0 ≡ drop 1 l ++ (0 ∷ [])
 shifted [] m long h = absurd (omega arith)
 shifted (x ∷ l) m long h =
-    rw (h, long, take_all 7 l (omega arith), drop-cons (x ∷ l) 7 0 (omega arith), drop_of_length-le (x ∷ l) {i = 8} (omega arith)) (set_at l _ [] 0 7 (omega arith))
+    rw (h, take_all 7 l (omega arith), drop-cons (x ∷ l) 7 0 (omega arith), drop_of_length-le (x ∷ l) {i = 8} (omega arith)) (set_at l _ [] 0 7 (omega arith))
 
 pad : (l : List ℕ) (i : ℕ) → get_or (l ++ (0 ∷ [])) i 0 ≡ get_or l i 0
 pad [] zero = refl

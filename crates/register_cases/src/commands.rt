@@ -149,8 +149,9 @@ fn load(r: &mut Registers, words: u32) {
 // The last of the words, if it is lost.
 fn arrive(r: &mut Registers, words: u16) -> Option<u16> {
     let mut lost = None;
-    for word in 1..=words {
-        lost = r.receive_word(word);
+    // Not over `1..=words`, where a word takes twice as long.
+    for before in 0..words {
+        lost = r.receive_word(before + 1);
     }
     lost
 }

@@ -40,7 +40,10 @@ impl Registers {
     {
         self.timeout.rt = false;
         let lost = self.rx.add(word);
-        self.ror |= lost.is_some();
+        // Not `|=`, by which many arriving words take longer.
+        if lost.is_some() {
+            self.ror = true;
+        }
         lost
     }
 

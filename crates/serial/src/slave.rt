@@ -132,6 +132,7 @@ fn motorola_clock(
     }
 }
 
+// `mut`, as the copies of the engine in frames take it.
 fn after_taking(took: bool, mut r: Step) -> Step
     ensures { result ≡ after_taking took r }
 {
